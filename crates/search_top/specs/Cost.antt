@@ -1,0 +1,30 @@
+-- The cost of a listing, from a table of this project: what its lines cost, added up. A line costs its
+-- base, 4 more where it reads memory, and 2 more where it writes memory.
+use Rattle.std.specs.Prelude.{ℕ, ◌+◌, List, sum_by}
+use Rattle.x86_meaning.specs.declared.instr.Rm.{Rm}
+use Rattle.x86_meaning.specs.declared.instr.Rm.TheVariants as rms
+use Rattle.x86_meaning.specs.declared.instr.Src.{Src}
+use Rattle.x86_meaning.specs.declared.instr.Src.TheVariants as srcs
+use Rattle.x86_meaning.specs.declared.instr.Instr.{Instr}
+use Rattle.x86_meaning.specs.declared.instr.Instr.TheVariants as instrs
+use Rattle.x86_meaning.specs.declared.listing.Line.{Line}
+
+-- for a read of memory
+abbrev pub rm_cost : Rm → ℕ
+rm_cost (rms.Reg r) = 0
+rm_cost (rms.Mem mem) = 4
+
+abbrev pub src_cost : Src → ℕ
+src_cost (srcs.Reg r) = 0
+src_cost (srcs.Mem mem) = 4
+src_cost (srcs.Imm n) = 0
+
+abbrev pub instr_cost : Instr → ℕ
+instr_cost (instrs.Mov dst src) = 1 + rm_cost src
+instr_cost (instrs.MovImm dst imm) = 1
+instr_cost (instrs.Store mem src) = 1 + 2
+instr_cost (instrs.Bin op dst src) = 1 + src_cost src
+instr_cost instrs.Ret = 1
+
+abbrev pub cost_of : List Line → ℕ
+cost_of lines = sum_by (λ line. instr_cost line.instr) lines

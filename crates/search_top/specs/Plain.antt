@@ -1,0 +1,109 @@
+-- The plain listing of a program: each parameter and each value has a slot in the frame, and each operation
+-- loads its operands from their slots and stores its results.
+use Rattle.std.specs.Prelude.{ℕ, ◌+◌, ◌*◌, List, [], ◌∷◌, ◌++◌, length, Option, Some, None, ℤ, pos, sum_by, slice_get, slice_index_or}
+use Rattle.std.specs.List.{flat_map}
+use Rattle.std.specs.Option.{option_map_or}
+use Rattle.word_program.specs.declared.parameter.Param.{Param}
+use Rattle.word_program.specs.declared.parameter.Role.{Role}
+use Rattle.word_program.specs.declared.parameter.Role.TheVariants.{Output, InputArray, InputScalar}
+use Rattle.word_program.specs.declared.operation.Op.{Op}
+use Rattle.word_program.specs.declared.operation.Kind.{Kind}
+use Rattle.word_program.specs.declared.operation.Kind.TheVariants as kinds
+use Rattle.word_program.specs.declared.operation.Operand.{Operand}
+use Rattle.word_program.specs.declared.operation.Operand.TheVariants as operands
+use Rattle.word_program.specs.declared.operation.Target.{Target}
+use Rattle.word_program.specs.declared.operation.Target.TheVariants as targets
+use Rattle.word_program.specs.Program.{Source}
+use Rattle.x86_meaning.specs.declared.instr.Reg.{Reg}
+use Rattle.x86_meaning.specs.declared.instr.Reg.TheVariants.{Rax, Rcx, Rsp, R11}
+use Rattle.x86_meaning.specs.declared.instr.Mem.{Mem}
+use Rattle.x86_meaning.specs.declared.instr.Rm.TheVariants as rms
+use Rattle.x86_meaning.specs.declared.instr.Src.TheVariants as srcs
+use Rattle.x86_meaning.specs.declared.instr.Bin.TheVariants.{Add, Sub}
+use Rattle.x86_meaning.specs.declared.instr.Instr.{Instr}
+use Rattle.x86_meaning.specs.declared.instr.Instr.TheVariants as instrs
+use Rattle.x86_meaning.specs.declared.listing.Line.{Line}
+use Rattle.x86_meaning.specs.declared.listing.Listing.{Listing}
+use Rattle.x86_meaning.specs.Start.{param_reg}
+
+-- ---- lines and slots
+
+-- a line that no operation owns
+abbrev pub unowned : Instr → Line
+unowned instr = record { instr = instr; owner = None }
+
+-- a line that an operation owns
+abbrev pub owned : ℕ → Instr → Line
+owned op instr = record { instr = instr; owner = Some op }
+
+-- the word of this number from a register on
+abbrev pub word_at : Reg → ℕ → Mem
+word_at base word = record { base = base; index = None; disp = pos (8 * word) }
+
+-- how many values the operations have
+abbrev pub value_count : List Op → ℕ
+value_count ops = sum_by (λ op. length op.targets) ops
+
+-- the slots: first the parameters', then the values'
+abbrev pub slot_count : Source → ℕ
+slot_count program = length program.params + value_count program.ops
+
+-- ---- loads and stores
+
+-- an input word into a register: the parameter's slot holds a scalar itself, and the place of an array
+abbrev pub load_input : Reg → ℕ → ℕ → Role → List Line
+load_input dst param word InputScalar = unowned (instrs.Mov dst (rms.Mem (word_at Rsp param))) ∷ []
+load_input dst param word InputArray =
+    unowned (instrs.Mov dst (rms.Mem (word_at Rsp param))) ∷ unowned (instrs.Mov dst (rms.Mem (word_at dst word))) ∷ []
+load_input dst param word Output = []
+
+-- an operand into a register
+abbrev pub load : List Param → Reg → Operand → List Line
+load params dst (operands.Literal n) = unowned (instrs.MovImm dst n) ∷ []
+load params dst (operands.Input param word) = option_map_or (λ p. load_input dst param word p.role) (slice_get params param) []
+load params dst (operands.Value number) = unowned (instrs.Mov dst (rms.Mem (word_at Rsp (length params + number)))) ∷ []
+
+-- the result with this value number out of a register
+abbrev pub store : List Param → ℕ → Target → Reg → List Line
+store params number targets.Value src = unowned (instrs.Store (word_at Rsp (length params + number)) src) ∷ []
+store params number targets.Unused src = []
+store params number (targets.Output param word) src =
+    unowned (instrs.Mov R11 (rms.Mem (word_at Rsp param))) ∷ unowned (instrs.Store (word_at R11 word) src) ∷ []
+
+-- the operand and the target at a place of an operation
+abbrev pub arg_at : Op → ℕ → Operand
+arg_at op place = slice_index_or op.args place (operands.Literal 0)
+
+abbrev pub target_at : Op → ℕ → Target
+target_at op place = slice_index_or op.targets place targets.Unused
+
+-- ---- blocks
+
+-- The lines of an operation of this kind, by its number and the number of its first value: one row a kind.
+-- Of each row the owned lines are the operation's own.
+abbrev pub block_of : Kind → List Param → ℕ → ℕ → Op → List Line
+block_of kinds.Copy params op_number value op =
+    load params Rcx (arg_at op 0) ++ owned op_number (instrs.Mov Rax (rms.Reg Rcx)) ∷ store params value (target_at op 0) Rax
+
+-- the lines of operations of which the first has this number and this first value
+abbrev pub blocks_from : List Param → ℕ → ℕ → List Op → List Line
+blocks_from params op_number value [] = []
+blocks_from params op_number value (op ∷ ops) =
+    block_of op.kind params op_number value op ++ blocks_from params (op_number + 1) (value + length op.targets) ops
+
+-- ---- the listing
+
+-- the registers of the parameters from this number on into their slots
+abbrev pub saves_from : ℕ → List Param → List Line
+saves_from param [] = []
+saves_from param (p ∷ ps) = unowned (instrs.Store (word_at Rsp param) (param_reg param)) ∷ saves_from (param + 1) ps
+
+abbrev pub plain_lines : Source → List Line
+plain_lines program =
+    unowned (instrs.Bin Sub Rsp (srcs.Imm (pos (8 * slot_count program))))
+    ∷ (saves_from 0 program.params
+    ++ (blocks_from program.params 0 0 program.ops
+    ++ (unowned (instrs.Bin Add Rsp (srcs.Imm (pos (8 * slot_count program)))) ∷ unowned instrs.Ret ∷ [])))
+
+abbrev pub plain_listing : Source → Listing
+plain_listing program = record { name = program.name; lines = plain_lines program }

@@ -1,0 +1,5 @@
+pub mod Options
+pub mod Texts
+pub mod Program
+pub mod Copy
+pub mod Values

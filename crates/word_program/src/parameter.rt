@@ -1,0 +1,31 @@
+use crate::items::Items;
+use crate::text::Text;
+
+/// The least and the greatest value of a word, both of which it may have.
+#[derive(Clone, Copy)]
+pub struct Bounds {
+    pub low: u64,
+    pub high: u64,
+}
+
+/// A list of bounds, one for each word of a parameter.
+pub type BoundsList = Items<Bounds>;
+
+/// What a parameter is for.
+#[derive(Clone, Copy)]
+pub enum Role {
+    /// An array that the function writes.
+    Output,
+    /// An array that the function reads.
+    InputArray,
+    /// One word, passed by value.
+    InputScalar,
+}
+
+/// A parameter: a name, a role, and the bounds of each word, of which a scalar has one.
+#[derive(Drop)]
+pub struct Param {
+    pub name: Text,
+    pub role: Role,
+    pub bounds: BoundsList,
+}

@@ -1,0 +1,40 @@
+-- A correct listing: from every start state its run ends, with the program's outputs in the output arrays,
+-- the preserved registers as they were (System V AMD64 psABI, section 3.2.1), and nothing else in the
+-- memory changed, in any state of the run, but the output arrays and the frame.
+use Rattle.std.specs.Prelude.{◌≡◌, ◌≢◌, ℕ, ◌<◌, ◌/◌, Bool, true, false, List, [], ◌∷◌, Some, is_some}
+use Rattle.std.specs.List.{AllByRecursion}
+use Rattle.std.specs.FinMap as map
+use Rattle.word_program.specs.declared.parameter.Param.{Param}
+use Rattle.word_program.specs.Program.{Source}
+use Rattle.word_program.specs.Values.{output_word}
+use Rattle.x86_meaning.specs.declared.instr.Reg.{Reg}
+use Rattle.x86_meaning.specs.declared.instr.Reg.TheVariants.{Rax, Rcx, Rdx, Rbx, Rsp, Rbp, Rsi, Rdi, R8, R9, R10, R11, R12, R13, R14, R15}
+use Rattle.x86_meaning.specs.declared.listing.Line.{Line}
+use Rattle.x86_meaning.specs.Machine.{State, Cells, reg}
+use Rattle.x86_meaning.specs.Runs.{Runs}
+use Rattle.x86_meaning.specs.Start.{Area, Array, Frame, output_words, area_words, place_of, frame_of, IsStart}
+
+-- the place is in none of the output arrays, and not in the frame
+pub record IsOutside (params : List Param) (frame : ℕ) (s : State) (place : ℕ) : Type 0 where
+  pub outputs : (param word : ℕ) → word < output_words params param → place ≢ place_of s frame (Array param) word
+  pub under_stack : (word : ℕ) → word < area_words params frame Frame → place ≢ place_of s frame Frame word
+
+-- the memory has the cells of the start state, and those outside hold what they held there
+pub record Keeps (params : List Param) (frame : ℕ) (s : State) (cells : Cells) : Type 0 where
+  pub places : (place : ℕ) → is_some (map.get cells place) ≡ is_some (map.get s.cells place)
+  pub others : (place : ℕ) → IsOutside params frame s place → map.get cells place ≡ map.get s.cells place
+
+-- the registers that a function gives back as it found them
+abbrev pub preserved : List Reg
+preserved = Rbx ∷ Rbp ∷ R12 ∷ R13 ∷ R14 ∷ R15 ∷ Rsp ∷ []
+
+-- the last state t of a run from the start state s
+pub record Returns (program : Source) (frame : ℕ) (inputs : List ℕ) (s t : State) : Type 0 where
+  pub outputs : (param word : ℕ) → word < output_words program.params param → map.get t.cells (place_of s frame (Array param) word) ≡ Some (output_word program inputs param word)
+  pub registers : AllByRecursion (λ r. reg t r ≡ reg s r) preserved
+  pub keeps : Keeps program.params frame s t.cells
+
+-- the listing with these lines is correct for the program
+pub record IsCorrect (program : Source) (lines : List Line) : Type 0 where
+  pub runs : (inputs : List ℕ) (s : State) → IsStart program lines inputs s
+      → Runs (λ t. Keeps program.params (frame_of lines) s t.cells) (λ t. Returns program (frame_of lines) inputs s t) lines s

@@ -1,0 +1,124 @@
+-- The states in which a function may start (System V AMD64 psABI, sections 3.2.2 and 3.2.3: the stack
+-- frame, and parameter passing), with its parameters in registers and their arrays in the memory.
+use Rattle.std.specs.Prelude.{◌≡◌, ◌≢◌, ℕ, ◌+◌, ◌-◌, ◌*◌, ◌/◌, ◌%◌, ◌^◌, ◌<◌, ◌≤◌, Bool, true, false, not, ◌&&◌, ◌==◌, nat_le, List, [], ◌∷◌, length, Option, Some, slice_get, slice_index_or, if◌then◌else◌, ℤ, pos, negsuc, IsTrue, IsSome}
+use Rattle.std.specs.Option.{option_map_or}
+use Rattle.std.specs.FinMap as map
+use Rattle.word_program.specs.declared.parameter.Param.{Param}
+use Rattle.word_program.specs.declared.parameter.Role.{Role}
+use Rattle.word_program.specs.Program.{Source}
+use Rattle.word_program.specs.Values.{is_output, is_scalar, input_word, input_bounds, AreWithin}
+use Rattle.x86_meaning.specs.declared.instr.Reg.{Reg}
+use Rattle.x86_meaning.specs.declared.instr.Reg.TheVariants.{Rcx, Rdx, Rsp, Rsi, Rdi, R8, R9}
+use Rattle.x86_meaning.specs.declared.instr.Src.{Src}
+use Rattle.x86_meaning.specs.declared.instr.Src.TheVariants as srcs
+use Rattle.x86_meaning.specs.declared.instr.Bin.{Bin}
+use Rattle.x86_meaning.specs.declared.instr.Bin.TheVariants.{Add, Sub}
+use Rattle.x86_meaning.specs.declared.instr.Instr.{Instr}
+use Rattle.x86_meaning.specs.declared.instr.Instr.TheVariants as instrs
+use Rattle.x86_meaning.specs.declared.listing.Line.{Line}
+use Rattle.x86_meaning.specs.Machine.{State, IsState, reg, number_of, Cells}
+
+-- ---- the frame
+
+-- a multiple of 8 from 8 to 32,816
+abbrev pub is_frame : ℕ → Bool
+is_frame n = n % 8 == 0 && (nat_le 8 n && nat_le n 32816)
+
+abbrev pub frame_in : Src → ℕ
+frame_in (srcs.Reg r) = 0
+frame_in (srcs.Mem mem) = 0
+frame_in (srcs.Imm (pos n)) = if is_frame n then n else 0
+frame_in (srcs.Imm (negsuc n)) = 0
+
+abbrev pub frame_by : Bin → Reg → Src → ℕ
+frame_by Add dst src = 0
+frame_by Sub dst src = if number_of dst == number_of Rsp then frame_in src else 0
+
+abbrev pub reserved_by : Instr → ℕ
+reserved_by (instrs.Mov dst src) = 0
+reserved_by (instrs.MovImm dst imm) = 0
+reserved_by (instrs.Store mem src) = 0
+reserved_by (instrs.Bin op dst src) = frame_by op dst src
+reserved_by instrs.Ret = 0
+
+-- the bytes of the stack that a listing reserves: F where its first line is `sub rsp, F` with such an F,
+-- else 0
+abbrev pub frame_of : List Line → ℕ
+frame_of [] = 0
+frame_of (line ∷ lines) = reserved_by line.instr
+
+-- ---- the places of arrays and stack
+
+-- the registers that pass the parameters, in order
+abbrev pub param_regs : List Reg
+param_regs = Rdi ∷ Rsi ∷ Rdx ∷ Rcx ∷ R8 ∷ R9 ∷ []
+
+-- the register of a parameter, counted from 0
+abbrev pub param_reg : ℕ → Reg
+param_reg param = slice_index_or param_regs param Rdi
+
+-- how many words a parameter's array has; no words where there is none
+abbrev pub words_if : (Role → Bool) → List Param → ℕ → ℕ
+words_if test params param = option_map_or (λ p. if test p.role then length p.bounds else 0) (slice_get params param) 0
+
+abbrev pub array_words : List Param → ℕ → ℕ
+array_words params param = words_if (λ role. not (is_scalar role)) params param
+
+abbrev pub output_words : List Param → ℕ → ℕ
+output_words params param = words_if is_output params param
+
+abbrev pub input_array_words : List Param → ℕ → ℕ
+input_array_words params param = words_if (λ role. not (is_scalar role) && not (is_output role)) params param
+
+-- the array of a parameter, the frame under the stack pointer, and the cell of the return address
+pub data Area : Type 0 where
+  Array : ℕ → Area
+  Frame : Area
+  Return : Area
+
+-- how many words an area has
+abbrev pub area_words : List Param → ℕ → Area → ℕ
+area_words params frame (Array param) = array_words params param
+area_words params frame Frame = frame / 8
+area_words params frame Return = 1
+
+-- the place of a word of an area, in the state at the start
+abbrev pub place_of : State → ℕ → Area → ℕ → ℕ
+place_of s frame (Array param) word = reg s (param_reg param) + 8 * word
+place_of s frame Frame word = reg s Rsp - frame + 8 * word
+place_of s frame Return word = reg s Rsp + 8 * word
+
+-- an area that shares no cell with any other: an output array, the frame, the return cell
+abbrev pub is_apart : List Param → Area → Bool
+is_apart params (Array param) = option_map_or (λ p. is_output p.role) (slice_get params param) false
+is_apart params Frame = true
+is_apart params Return = true
+
+-- the two areas share no cell
+abbrev pub AreApart : State → List Param → ℕ → Area → Area → Type 0
+AreApart s params frame a b =
+    (i j : ℕ) → i < area_words params frame a → j < area_words params frame b → place_of s frame a i ≢ place_of s frame b j
+
+-- ---- the start
+
+-- The state is a start of the listing with these lines for the program on these input words. All that is
+-- not named is free: the other registers, the flags, and the other cells.
+pub record IsStart (program : Source) (lines : List Line) (inputs : List ℕ) (s : State) : Type 0 where
+  pub state : IsState s
+  -- as many inputs as the program has, each within its bounds
+  pub inputs_within : AreWithin inputs (input_bounds program.params)
+  -- the arrays' words, the frame and the return cell are in the memory, which may have more
+  pub there : (area : Area) (word : ℕ) → word < area_words program.params (frame_of lines) area → IsSome (map.get s.cells (place_of s (frame_of lines) area word))
+  -- an array begins at a multiple of 8, and does not pass the end of the address space
+  pub aligned : (param : ℕ) → 0 < array_words program.params param → reg s (param_reg param) % 8 ≡ 0
+  pub ends : (param : ℕ) → 0 < array_words program.params param → reg s (param_reg param) + 8 * array_words program.params param ≤ 2 ^ 64
+  -- nor does the frame with the return cell
+  pub frame_begins : frame_of lines ≤ reg s Rsp
+  pub stack_ends : reg s Rsp + 8 ≤ 2 ^ 64
+  pub stack_aligned : (reg s Rsp + 8) % 16 ≡ 0
+  -- the input arrays and the scalars' registers hold the inputs
+  pub arrays : (param word : ℕ) → word < input_array_words program.params param → map.get s.cells (place_of s (frame_of lines) (Array param) word) ≡ Some (input_word program.params inputs param word)
+  pub scalars : (param : ℕ) → 0 < words_if is_scalar program.params param → reg s (param_reg param) ≡ input_word program.params inputs param 0
+  -- the output arrays, the frame and the return cell share no cell with each other or an input array;
+  -- input arrays may overlap
+  pub apart : (a b : Area) → a ≢ b → IsTrue (is_apart program.params a) → AreApart s program.params (frame_of lines) a b
