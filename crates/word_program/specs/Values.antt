@@ -1,7 +1,7 @@
 -- What a program computes: the list of its values in program order, by the equations of its operations
 -- (the helper functions of Fiat Cryptography, and plain word operations). The input words stand in one
 -- list, in the order of the parameters.
-use Rattle.std.specs.Prelude.{ℕ, ◌+◌, ◌≤◌, Bool, true, false, ◌&&◌, ◌==◌, List, [], ◌∷◌, ◌++◌, length, map, take, fold, sum_by, position, slice_get, slice_index, Option, if◌then◌else◌}
+use Rattle.std.specs.Prelude.{ℕ, ◌+◌, ◌≤◌, Bool, true, false, ◌&&◌, ◌==◌, List, [], ◌∷◌, ◌++◌, length, map, take, fold, sum_by, position, slice_index, if◌then◌else◌}
 use Rattle.std.specs.List.{flat_map}
 use Rattle.std.specs.Option.{option_map_or}
 use Rattle.word_program.specs.declared.parameter.Bounds.{Bounds}

@@ -1,7 +1,9 @@
 //! Straight-line programs over 64-bit words: what a program is, which parts make one, and what it computes.
 //!
-//! A [`Program`] is a list of parameters and a list of operations, and exists only where
-//! [`Program::new`] accepted its parts. What it computes is `output_word` of `specs/Values.antt`.
+//! It promises to whoever holds a [`Program`], as a listing's check or a compiler does, that the rules
+//! accept it (`IsAccepted` of `specs/Copy.antt`): [`Program::params`] and [`Program::ops`] say so. It promises
+//! to whoever reads a file that [`Program::new`] gives the program that the parts are (`program_of`) and refuses
+//! all others, want of memory apart. What a program computes is `output_word` of `specs/Values.antt`.
 #![tactic(auto)]
 
 mod copy;

@@ -1,18 +1,18 @@
 -- A correct listing: from every start state its run ends, with the program's outputs in the output arrays,
 -- the preserved registers as they were (System V AMD64 psABI, section 3.2.1), and nothing else in the
 -- memory changed, in any state of the run, but the output arrays and the frame.
-use Rattle.std.specs.Prelude.{◌≡◌, ◌≢◌, ℕ, ◌<◌, ◌/◌, Bool, true, false, List, [], ◌∷◌, Some, is_some}
+use Rattle.std.specs.Prelude.{◌≡◌, ◌≢◌, ℕ, ◌<◌, List, [], ◌∷◌, Some, is_some}
 use Rattle.std.specs.List.{AllByRecursion}
 use Rattle.std.specs.FinMap as map
 use Rattle.word_program.specs.declared.parameter.Param.{Param}
 use Rattle.word_program.specs.Program.{Source}
 use Rattle.word_program.specs.Values.{output_word}
 use Rattle.x86_meaning.specs.declared.instr.Reg.{Reg}
-use Rattle.x86_meaning.specs.declared.instr.Reg.TheVariants.{Rax, Rcx, Rdx, Rbx, Rsp, Rbp, Rsi, Rdi, R8, R9, R10, R11, R12, R13, R14, R15}
+use Rattle.x86_meaning.specs.declared.instr.Reg.TheVariants.{Rbx, Rsp, Rbp, R12, R13, R14, R15}
 use Rattle.x86_meaning.specs.declared.listing.Line.{Line}
 use Rattle.x86_meaning.specs.Machine.{State, Cells, reg}
 use Rattle.x86_meaning.specs.Runs.{Runs}
-use Rattle.x86_meaning.specs.Start.{Area, Array, Frame, output_words, area_words, place_of, frame_of, IsStart}
+use Rattle.x86_meaning.specs.Start.{Array, Frame, output_words, area_words, place_of, frame_of, IsStart}
 
 -- the place is in none of the output arrays, and not in the frame
 pub record IsOutside (params : List Param) (frame : ℕ) (s : State) (place : ℕ) : Type 0 where

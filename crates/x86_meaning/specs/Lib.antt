@@ -2,3 +2,4 @@ pub mod Machine
 pub mod Runs
 pub mod Start
 pub mod Correct
+pub mod Laws

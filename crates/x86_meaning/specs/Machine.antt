@@ -1,7 +1,7 @@
 -- The machine: its states, and the state that an instruction leads to. Each instruction's row follows the
 -- Intel Software Developer's Manual, volume 2, under the instruction's name, at 64-bit operand size. An
 -- undefined flag may have any value, so reading one is stuck, and so is an access outside the memory.
-use Rattle.std.specs.Prelude.{◌≡◌, ℕ, ◌+◌, ◌-◌, ◌*◌, ◌%◌, ◌^◌, ◌<◌, Bool, not, ◌&&◌, ◌==◌, nat_lt, nat_le, List, length, Option, Some, None, is_some, IsSome, IfSome, slice_index, slice_set, if◌then◌else◌, ℤ, option_map, option_and_then}
+use Rattle.std.specs.Prelude.{◌≡◌, ℕ, ◌+◌, ◌-◌, ◌*◌, ◌%◌, ◌^◌, ◌<◌, Bool, not, ◌&&◌, ◌==◌, nat_lt, nat_le, List, length, Option, Some, None, is_some, IsSome, IfSome, slice_index, slice_set, if◌then◌else◌, option_map, option_and_then}
 use Rattle.std.specs.Int.{cast_unsigned, w64}
 use Rattle.std.specs.Ordering.{nat_cmp}
 use Rattle.std.specs.FinMap as map

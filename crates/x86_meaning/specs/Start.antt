@@ -1,12 +1,12 @@
 -- The states in which a function may start (System V AMD64 psABI, sections 3.2.2 and 3.2.3: the stack
 -- frame, and parameter passing), with its parameters in registers and their arrays in the memory.
-use Rattle.std.specs.Prelude.{◌≡◌, ◌≢◌, ℕ, ◌+◌, ◌-◌, ◌*◌, ◌/◌, ◌%◌, ◌^◌, ◌<◌, ◌≤◌, Bool, true, false, not, ◌&&◌, ◌==◌, nat_le, List, [], ◌∷◌, length, Option, Some, slice_get, slice_index_or, if◌then◌else◌, ℤ, pos, negsuc, IsTrue, IsSome}
+use Rattle.std.specs.Prelude.{◌≡◌, ◌≢◌, ℕ, ◌+◌, ◌-◌, ◌*◌, ◌/◌, ◌%◌, ◌^◌, ◌<◌, ◌≤◌, Bool, true, false, not, ◌&&◌, ◌==◌, nat_le, List, [], ◌∷◌, length, Some, slice_get, slice_index_or, if◌then◌else◌, pos, negsuc, IsTrue, IsSome}
 use Rattle.std.specs.Option.{option_map_or}
 use Rattle.std.specs.FinMap as map
 use Rattle.word_program.specs.declared.parameter.Param.{Param}
 use Rattle.word_program.specs.declared.parameter.Role.{Role}
 use Rattle.word_program.specs.Program.{Source}
-use Rattle.word_program.specs.Values.{is_output, is_scalar, input_word, input_bounds, AreWithin}
+use Rattle.word_program.specs.Values.{is_output, is_input_array, is_scalar, input_word, input_bounds, AreWithin}
 use Rattle.x86_meaning.specs.declared.instr.Reg.{Reg}
 use Rattle.x86_meaning.specs.declared.instr.Reg.TheVariants.{Rcx, Rdx, Rsp, Rsi, Rdi, R8, R9}
 use Rattle.x86_meaning.specs.declared.instr.Src.{Src}
@@ -16,7 +16,7 @@ use Rattle.x86_meaning.specs.declared.instr.Bin.TheVariants.{Add, Sub}
 use Rattle.x86_meaning.specs.declared.instr.Instr.{Instr}
 use Rattle.x86_meaning.specs.declared.instr.Instr.TheVariants as instrs
 use Rattle.x86_meaning.specs.declared.listing.Line.{Line}
-use Rattle.x86_meaning.specs.Machine.{State, IsState, reg, number_of, Cells}
+use Rattle.x86_meaning.specs.Machine.{State, IsState, reg, number_of}
 
 -- ---- the frame
 
@@ -68,7 +68,7 @@ abbrev pub output_words : List Param → ℕ → ℕ
 output_words params param = words_if is_output params param
 
 abbrev pub input_array_words : List Param → ℕ → ℕ
-input_array_words params param = words_if (λ role. not (is_scalar role) && not (is_output role)) params param
+input_array_words params param = words_if is_input_array params param
 
 -- the array of a parameter, the frame under the stack pointer, and the cell of the return address
 pub data Area : Type 0 where

@@ -7,7 +7,9 @@
 #![tactic(auto)]
 
 mod instr;
+mod laws;
 mod listing;
 
 pub use instr::{Bin, Index, Instr, Mem, Reg, Rm, Src};
+pub use laws::{correct_listing_ends, overflow_is_signed};
 pub use listing::{Line, Lines, Listing};

@@ -1,0 +1,5 @@
+pub mod Memory
+pub mod Keeping
+pub mod Stepping
+pub mod RegisterLemmas
+pub mod Overflow

@@ -1,0 +1,21 @@
+-- What the laws of this crate say.
+use Rattle.std.specs.Prelude.{◌≡◌, ℕ, List, ℤ, pos, ◌+ℤ◌, ◌-ℤ◌}
+use Rattle.std.specs.Int.{cast_signed, w64}
+use Rattle.word_program.specs.Program.{Source}
+use Rattle.x86_meaning.specs.declared.listing.Line.{Line}
+use Rattle.x86_meaning.specs.Machine.{State}
+use Rattle.x86_meaning.specs.Runs.{Ended, run_from}
+use Rattle.x86_meaning.specs.Start.{frame_of}
+use Rattle.x86_meaning.specs.Correct.{Returns}
+
+-- the run from the start state s, as it is computed, ends with what the program asks for
+abbrev pub EndsReturning : Source → List Line → List ℕ → State → Type 0
+EndsReturning program lines inputs s = (t : State) × (run_from 1 lines s ≡ Ended t) × Returns program (frame_of lines) inputs s t
+
+-- the exact sum, with signs, of two words and a carry
+abbrev pub signed_sum : ℕ → ℕ → ℕ → ℤ
+signed_sum d b carry = cast_signed w64 d +ℤ cast_signed w64 b +ℤ pos carry
+
+-- the exact difference, with signs, of two words and a borrow
+abbrev pub signed_difference : ℕ → ℕ → ℕ → ℤ
+signed_difference d b borrow = cast_signed w64 d -ℤ cast_signed w64 b -ℤ pos borrow
