@@ -19,7 +19,7 @@ use Rattle.x86_meaning.proofs.Memory.{get_put_same}
 use Rattle.x86_meaning.proofs.Keeping.{keeps_start, keeps_put, put_same_area, written_there, input_kept}
 use Rattle.x86_meaning.proofs.Stepping.{on_store, on_load}
 use Rattle.x86_meaning.proofs.RegisterLemmas.{by_sixteen}
-use Rattle.search_top.specs.Plain.{plain_lines, saves_from, blocks_from, unowned, slot_count}
+use Rattle.search_top.specs.Plain.{plain_lines, saves_from, blocks_from, unowned, frame_bytes}
 
 -- the one output word is the word 0 of the parameter 0
 one_output : (C : ℕ → ℕ → Type 0) (output input : List ℕ) (words : ℕ) → C 0 0 → (param word : ℕ)
@@ -64,7 +64,7 @@ module _ (name output input : List ℕ) (words index : ℕ) (within : index < wo
       → IsStart program lines inputs first
       → Runs (λ t. Kept t.cells) (λ t. Returns program 24 inputs first t)
       (saves_from 0 program.params ++ (blocks_from program.params 0 0 program.ops
-      ++ (unowned (instrs.Bin Add Rsp (srcs.Imm (pos (8 * slot_count program)))) ∷ unowned instrs.Ret ∷ [])))
+      ++ (unowned (instrs.Bin Add Rsp (srcs.Imm (pos (frame_bytes program.params program.ops)))) ∷ unowned instrs.Ret ∷ [])))
       (later cf of zf r0 r1 rsp r11 s.cells)
   body cf of zf rsp e begins r4_word r7_word ends there start =
       let w = input_word program.params inputs 1 index in

@@ -1,6 +1,6 @@
 -- The text of a listing, after the GNU assembler's Intel syntax: four header lines, and a line for each
 -- instruction. Numbers are decimal, and a comment names the operation that owns a line.
-use Rattle.std.specs.Prelude.{ℕ, suc, zero, List, [], ◌∷◌, ◌++◌, Option, Some, None, ℤ, pos, negsuc, codes, decimal}
+use Rattle.std.specs.Prelude.{ℕ, suc, zero, List, [], ◌++◌, Option, Some, None, ℤ, pos, negsuc, codes, decimal}
 use Rattle.std.specs.List.{flat_map}
 use Rattle.std.specs.Fmt.{signed_decimal}
 use Rattle.x86_meaning.specs.declared.instr.Reg.{Reg}
@@ -47,8 +47,12 @@ displacement_text (pos zero) = []
 displacement_text (pos (suc n)) = codes " + " ++ decimal (suc n)
 displacement_text (negsuc n) = codes " - " ++ decimal (suc n)
 
+-- base + index * scale + displacement
+unfoldable pub address_text : Mem → List ℕ
+address_text mem = reg_text mem.base ++ (index_text mem.index ++ displacement_text mem.disp)
+
 unfoldable pub mem_text : Mem → List ℕ
-mem_text mem = codes "qword ptr [" ++ (reg_text mem.base ++ (index_text mem.index ++ (displacement_text mem.disp ++ codes "]")))
+mem_text mem = codes "qword ptr [" ++ (address_text mem ++ codes "]")
 
 unfoldable pub rm_text : Rm → List ℕ
 rm_text (rms.Reg r) = reg_text r

@@ -1,8 +1,6 @@
 -- The plain listing of a program: each parameter and each value has a slot in the frame, and each operation
 -- loads its operands from their slots and stores its results.
-use Rattle.std.specs.Prelude.{ℕ, ◌+◌, ◌*◌, List, [], ◌∷◌, ◌++◌, length, Option, Some, None, ℤ, pos, sum_by, slice_get, slice_index_or}
-use Rattle.std.specs.List.{flat_map}
-use Rattle.std.specs.Option.{option_map_or}
+use Rattle.std.specs.Prelude.{ℕ, ◌+◌, ◌*◌, List, [], ◌∷◌, ◌++◌, length, Option, Some, None, pos, sum_by, option_map, slice_get, slice_index_or}
 use Rattle.word_program.specs.declared.parameter.Param.{Param}
 use Rattle.word_program.specs.declared.parameter.Role.{Role}
 use Rattle.word_program.specs.declared.parameter.Role.TheVariants.{Output, InputArray, InputScalar}
@@ -40,35 +38,42 @@ owned op instr = record { instr = instr; owner = Some op }
 abbrev pub word_at : Reg → ℕ → Mem
 word_at base word = record { base = base; index = None; disp = pos (8 * word) }
 
+-- that word into a register
+abbrev pub load_word : Reg → Reg → ℕ → Instr
+load_word dst base word = instrs.Mov dst (rms.Mem (word_at base word))
+
 -- how many values the operations have
 abbrev pub value_count : List Op → ℕ
 value_count ops = sum_by (λ op. length op.targets) ops
 
--- the slots: first the parameters', then the values'
-abbrev pub slot_count : Source → ℕ
-slot_count program = length program.params + value_count program.ops
+-- the bytes of the slots: first the parameters', then the values'
+abbrev pub frame_bytes : List Param → List Op → ℕ
+frame_bytes params ops = 8 * (length params + value_count ops)
 
 -- ---- loads and stores
 
+abbrev pub role_of : List Param → ℕ → Option Role
+role_of params param = option_map (λ p. p.role) (slice_get params param)
+
 -- an input word into a register: the parameter's slot holds a scalar itself, and the place of an array
-abbrev pub load_input : Reg → ℕ → ℕ → Role → List Line
-load_input dst param word InputScalar = unowned (instrs.Mov dst (rms.Mem (word_at Rsp param))) ∷ []
-load_input dst param word InputArray =
-    unowned (instrs.Mov dst (rms.Mem (word_at Rsp param))) ∷ unowned (instrs.Mov dst (rms.Mem (word_at dst word))) ∷ []
-load_input dst param word Output = []
+abbrev pub load_input : Option Role → Reg → ℕ → ℕ → List Line
+load_input (Some InputScalar) dst param word = unowned (load_word dst Rsp param) ∷ []
+load_input (Some InputArray) dst param word = unowned (load_word dst Rsp param) ∷ unowned (load_word dst dst word) ∷ []
+load_input (Some Output) dst param word = []
+load_input None dst param word = []
 
 -- an operand into a register
 abbrev pub load : List Param → Reg → Operand → List Line
 load params dst (operands.Literal n) = unowned (instrs.MovImm dst n) ∷ []
-load params dst (operands.Input param word) = option_map_or (λ p. load_input dst param word p.role) (slice_get params param) []
-load params dst (operands.Value number) = unowned (instrs.Mov dst (rms.Mem (word_at Rsp (length params + number)))) ∷ []
+load params dst (operands.Input param word) = load_input (role_of params param) dst param word
+load params dst (operands.Value number) = unowned (load_word dst Rsp (length params + number)) ∷ []
 
 -- the result with this value number out of a register
 abbrev pub store : List Param → ℕ → Target → Reg → List Line
 store params number targets.Value src = unowned (instrs.Store (word_at Rsp (length params + number)) src) ∷ []
 store params number targets.Unused src = []
 store params number (targets.Output param word) src =
-    unowned (instrs.Mov R11 (rms.Mem (word_at Rsp param))) ∷ unowned (instrs.Store (word_at R11 word) src) ∷ []
+    unowned (load_word R11 Rsp param) ∷ unowned (instrs.Store (word_at R11 word) src) ∷ []
 
 -- the operand and the target at a place of an operation
 abbrev pub arg_at : Op → ℕ → Operand
@@ -98,12 +103,15 @@ abbrev pub saves_from : ℕ → List Param → List Line
 saves_from param [] = []
 saves_from param (p ∷ ps) = unowned (instrs.Store (word_at Rsp param) (param_reg param)) ∷ saves_from (param + 1) ps
 
+abbrev pub lines_of : List Param → List Op → List Line
+lines_of params ops =
+    unowned (instrs.Bin Sub Rsp (srcs.Imm (pos (frame_bytes params ops))))
+    ∷ (saves_from 0 params
+    ++ (blocks_from params 0 0 ops
+    ++ (unowned (instrs.Bin Add Rsp (srcs.Imm (pos (frame_bytes params ops)))) ∷ unowned instrs.Ret ∷ [])))
+
 abbrev pub plain_lines : Source → List Line
-plain_lines program =
-    unowned (instrs.Bin Sub Rsp (srcs.Imm (pos (8 * slot_count program))))
-    ∷ (saves_from 0 program.params
-    ++ (blocks_from program.params 0 0 program.ops
-    ++ (unowned (instrs.Bin Add Rsp (srcs.Imm (pos (8 * slot_count program)))) ∷ unowned instrs.Ret ∷ [])))
+plain_lines program = lines_of program.params program.ops
 
 abbrev pub plain_listing : Source → Listing
 plain_listing program = record { name = program.name; lines = plain_lines program }

@@ -1,2 +1,19 @@
-//! The commands.
+//! The commands: what each does with its files, and the status that it ends with.
+//!
+//! [`search`] turns a program into a proved assembly listing. Its contract is the promise of the whole
+//! tool; the words that it cites are in `specs/`.
 #![tactic(auto)]
+
+mod assembly;
+mod cost;
+mod laws;
+mod opening;
+mod plain;
+mod reading;
+mod search_command;
+mod status;
+mod words;
+
+pub use laws::plain_listing_is_correct;
+pub use search_command::search;
+pub use status::{Status, exit_of, line_of};

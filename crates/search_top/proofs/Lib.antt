@@ -1,0 +1,2 @@
+pub mod CopyIsCorrect
+pub mod ItemLemmas

@@ -1,0 +1,12 @@
+//! Laws of the definitions: functions that do nothing, whose contracts are the laws.
+
+ghost use Rattle.word_program.specs.Copy.{IsAccepted};
+ghost use Rattle.word_program.specs.Program.{Source};
+ghost use Rattle.x86_meaning.specs.Correct.{IsCorrect};
+ghost use Rattle.search_top.specs.Plain.{plain_lines};
+
+/// The plain listing of every accepted program is correct: from every start state, on all inputs, it
+/// returns the program's outputs and changes no cell but those of the outputs and of its frame.
+pub fn plain_listing_is_correct()
+    ensures { (program : Source) → IsAccepted program → IsCorrect program (plain_lines program) }
+{}

@@ -1,0 +1,50 @@
+ghost use Rattle.std.specs.Prelude.{◌≡◌, ◌++◌, IfOk, IfErr, codes, decimal, string_bytes};
+ghost use Rattle.search_top.specs.Reading.{Causes};
+ghost use Rattle.x86_meaning.specs.Correct.{IsCorrect};
+ghost use Rattle.search_top.specs.Plain.{plain_lines, plain_listing};
+ghost use Rattle.search_top.specs.Assembly.{text_of};
+ghost use Rattle.search_top.specs.Search.{IsOpening, opening_text};
+
+use crate::reading::ReadFault;
+use crate::{assembly, cost, plain, reading};
+use std::alloc::{AllocError, Global};
+use word_program::Program;
+
+/// The opening of a search: a program's plain listing.
+#[derive(Drop)]
+pub struct Opening {
+    /// The text of the listing.
+    pub text: String,
+    /// The line that tells its cost.
+    pub line: String,
+}
+
+/// The opening of the program that the bytes are in JSON.
+pub fn opening_of(alloc: Global, bytes: &[u8]) -> Result<Opening, ReadFault>
+    ensures ok { IfOk result (λ o. IsOpening bytes.now (string_bytes o.text) (string_bytes o.line)) }
+    ensures err { IfErr result (Causes bytes.now) }
+{
+    let program = reading::read_program(alloc, bytes)?;
+    match plain_opening(alloc, &program) {
+        Ok(opening) => Ok(opening),
+        Err(_) => Err(ReadFault::Memory),
+    }
+}
+
+fn plain_opening(alloc: Global, program: &Program) -> Result<Opening, AllocError>
+    ensures text { IfOk result (λ o. string_bytes o.text ≡ text_of (plain_listing program.now)) }
+    ensures line { IfOk result (λ o. string_bytes o.line ≡ opening_text program.now) }
+    ensures correct { IfOk result (λ o. IsCorrect program.now (plain_lines program.now)) }
+{
+    let listing = plain::plain_listing(alloc, program)?;
+    let cost = cost::cost_of(listing.lines.items());
+    let text = assembly::text_of(alloc, &listing)?;
+    let line = opening_line(alloc, cost)?;
+    Ok(Opening { text, line })
+}
+
+fn opening_line(alloc: Global, cost: u64) -> Result<String, AllocError>
+    ensures { IfOk result (λ line. string_bytes line ≡ codes "opening " ++ (decimal cost ++ codes "\n")) }
+{
+    format!(in alloc; "opening {cost}\n")
+}

@@ -1,0 +1,130 @@
+ghost use Rattle.std.specs.Prelude.{◌≡◌, ◌++◌, IfOk, OnOk, string_bytes};
+ghost use Rattle.search_top.specs.Status.{exit_of, section_text, code_text, place_text, too_long_text, program_fault_text, line_of};
+
+use itoa::Buffer;
+use std::alloc::{AllocError, Global};
+use word_program::{Place, Section, Text};
+
+/// How a command ended.
+#[derive(Drop)]
+pub enum Status {
+    /// All of it was done.
+    Ok,
+    /// The words are not those of a command.
+    Usage,
+    /// The file of this name could not be read.
+    ReadFault(Text),
+    /// The file of this name has more bytes than this limit.
+    TooLong(Text, u64),
+    /// The program's file is not JSON.
+    NotJson,
+    /// The program breaks the rule with this code first, at this place.
+    Program(u8, Place),
+    /// The file of this name, or standard output where the name is `-`, could not be written.
+    WriteFault(Text),
+    /// There is no memory left.
+    OutOfMemory,
+}
+
+/// The exit status of the process.
+pub fn exit_of(status: &Status) -> u8
+    ensures { result ≡ exit_of status.now }
+{
+    match status {
+        Status::Ok => 0,
+        Status::Usage => 2,
+        Status::ReadFault(_) => 3,
+        Status::TooLong(..) => 4,
+        Status::NotJson => 5,
+        Status::Program(..) => 6,
+        Status::WriteFault(_) => 7,
+        Status::OutOfMemory => 17,
+    }
+}
+
+/// The line for standard error without its line feed, which is empty for [`Status::Ok`]. The one error is
+/// want of memory.
+pub fn line_of(alloc: Global, status: &Status) -> Result<Text, AllocError>
+    ensures { IfOk result (λ line. line ≡ line_of status.now) }
+{
+    let mut line = String::new(alloc);
+    push_line(&mut line, status)?;
+    Text::from_str(alloc, line.as_str())
+}
+
+#[tactic(auto, unfolding(crate::specs::Status::line_of))]
+fn push_line(line: &mut String, status: &Status) -> Result<(), AllocError>
+    ensures { OnOk result (string_bytes line.new ≡ string_bytes line.old ++ line_of status.now) }
+{
+    match status {
+        Status::Ok => Ok(()),
+        Status::Usage => line.push_str("usage"),
+        Status::ReadFault(name) => push_named(line, "cannot read ", name),
+        Status::TooLong(name, limit) => push_too_long(line, name.as_str(), *limit),
+        Status::NotJson => line.push_str("not JSON"),
+        Status::Program(code, place) => push_program_fault(line, *code, *place),
+        Status::WriteFault(name) => push_named(line, "cannot write ", name),
+        Status::OutOfMemory => line.push_str("out of memory"),
+    }
+}
+
+fn push_named(line: &mut String, front: &str, name: &Text) -> Result<(), AllocError>
+    ensures { OnOk result (string_bytes line.new ≡ string_bytes line.old ++ (front.now ++ name.now)) }
+{
+    line.push_str(front)?;
+    line.push_str(name.as_str())
+}
+
+#[tactic(auto, unfolding(crate::specs::Status::too_long_text))]
+fn push_too_long(line: &mut String, name: &str, limit: u64) -> Result<(), AllocError>
+    ensures { OnOk result (string_bytes line.new ≡ string_bytes line.old ++ too_long_text name.now limit) }
+{
+    line.push_str(name)?;
+    line.push_str(" has more than ")?;
+    line.push_str(Buffer::new().format(limit))?;
+    line.push_str(" bytes")?;
+    Ok(())
+}
+
+#[tactic(auto, unfolding(crate::specs::Status::program_fault_text))]
+fn push_program_fault(line: &mut String, code: u8, place: Place) -> Result<(), AllocError>
+    ensures { OnOk result (string_bytes line.new ≡ string_bytes line.old ++ program_fault_text code place) }
+{
+    line.push_str("program fault P")?;
+    push_code(line, code)?;
+    line.push_str(" at ")?;
+    push_place(line, place)?;
+    Ok(())
+}
+
+#[tactic(auto, unfolding(crate::specs::Status::code_text))]
+fn push_code(line: &mut String, code: u8) -> Result<(), AllocError>
+    ensures { OnOk result (string_bytes line.new ≡ string_bytes line.old ++ code_text code) }
+{
+    if code < 10 {
+        line.push_str("0")?;
+    }
+    line.push_str(Buffer::new().format(code))
+}
+
+#[tactic(auto, unfolding(crate::specs::Status::place_text))]
+fn push_place(line: &mut String, place: Place) -> Result<(), AllocError>
+    ensures { OnOk result (string_bytes line.new ≡ string_bytes line.old ++ place_text place) }
+{
+    line.push_str(section_text(place.section))?;
+    line.push_str(" ")?;
+    line.push_str(Buffer::new().format(place.item))?;
+    line.push_str(" ")?;
+    line.push_str(Buffer::new().format(place.inner))
+}
+
+fn section_text(section: Section) -> &'static str
+    ensures { result.now ≡ section_text section }
+{
+    match section {
+        Section::Top => "top",
+        Section::Returns => "returns",
+        Section::Arguments => "arguments",
+        Section::Body => "body",
+    }
+}
