@@ -1,2 +1,3 @@
-pub mod Shelf
 pub mod MemoryShelf
+pub mod Reader
+pub mod Shelf

@@ -1,5 +1,7 @@
 //! A shelf over the files and the standard output of the process.
 ghost use Rattle.std.specs.Prelude.{◌≡◌, ◌≢◌, ℕ, ◌+◌, ◌<◌, ◌≤◌, List, length, vec_len, IfOk, IfErr, IfSome, OnOk, OnErr, IsTrue};
+ghost use Rattle.std.specs.Io.KnownBytes.{Appends};
+ghost use Rattle.io_ports.specs.Reader.{TakesAtMost};
 
 use super::counts::Counts;
 use super::fault::Fault;
@@ -22,7 +24,10 @@ pub struct HostShelf<'a, R: Files + Print> {
 
 impl<'a, R: Files + Print> HostShelf<'a, R> {
     /// A shelf that works through `rt`, with no call yet.
-    pub fn new(rt: &'a R) -> HostShelf<'a, R> {
+    pub fn new(rt: &'a R) -> HostShelf<'a, R>
+        ensures calls { ⟦<HostShelf<'a, R> as Shelf>⟧.calls result ≡ 0 }
+        ensures faults { ⟦<HostShelf<'a, R> as Shelf>⟧.faults result ≡ 0 }
+    {
         HostShelf {
             rt,
             counts: Counts::new(),
@@ -84,7 +89,10 @@ impl<'a, R: Files + Print> Shelf for HostShelf<'a, R> {
 
 // The bytes that `file` gives up to its end, if they are at most `limit`. It reads at most `limit + 1` bytes.
 fn read_all<F: Read>(alloc: Global, file: &mut F, limit: u64) -> Result<Vec<u8>, Fault>
-    ensures { IfOk result (λ v. vec_len v ≤ limit) }
+    ensures within { IfOk result (λ v. vec_len v ≤ limit) }
+    ensures content { IfOk result (λ v. IfSome (F.remaining file.old) (λ xs. v.items ≡ xs)) }
+    ensures long { result ≡ Err Fault.TooLong → IfSome (F.remaining file.old) (λ xs. limit < length xs) }
+    ensures most { TakesAtMost (F.remaining file.old) (F.remaining file.new) (limit + 1) }
 {
     let mut bytes = Vec::new(alloc);
     let mut piece = [0u8; PIECE];
@@ -103,7 +111,9 @@ fn read_all<F: Read>(alloc: Global, file: &mut F, limit: u64) -> Result<Vec<u8>,
 }
 
 // Writes all of `bytes`, and says whether it could.
-fn write_all<W: Write>(writer: &mut W, bytes: &[u8]) -> bool {
+fn write_all<W: Write>(writer: &mut W, bytes: &[u8]) -> bool
+    ensures { IsTrue result → Appends (W.contents writer.old) (W.contents writer.new) bytes.now }
+{
     let mut rest = bytes;
     while !rest.is_empty() {
         match writer.write(rest) {

@@ -20,7 +20,7 @@ pub trait Shelf {
     // How many calls of the three methods there were. It stays at `u64::MAX`.
     ghost calls: { Self → ℕ };
 
-    // How many of them failed. It never falls, and may stay at `u64::MAX`.
+    // A count of faults. It never falls, and a call that fails raises it, up to `u64::MAX`.
     ghost faults: { Self → ℕ };
 
     /// The bytes of the file `name`, which are at most `limit`.
