@@ -1,2 +1,3 @@
 pub mod CopyIsCorrect
 pub mod ItemLemmas
+pub mod StartExists

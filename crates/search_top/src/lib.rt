@@ -14,6 +14,6 @@ mod search_command;
 mod status;
 mod words;
 
-pub use laws::plain_listing_is_correct;
+pub use laws::{copy_can_start, plain_listing_is_correct};
 pub use search_command::search;
 pub use status::{Status, exit_of, line_of};
