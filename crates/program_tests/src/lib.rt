@@ -1,0 +1,8 @@
+//! The tests of the crates that read, check and write programs. They stand here and not in those crates, since
+//! a library with a test of its own is proved twice.
+#![tactic(auto)]
+
+#[cfg(test)]
+mod programs;
+#[cfg(test)]
+mod shelves;
