@@ -5,8 +5,8 @@
 use std::alloc::{AllocError, Global};
 use std::test::Fail;
 use word_program::{
-    Items, Kind, Operand, Param, Place, Program, ProgramFault, RawOp, RawOps, RawParam, RawParams,
-    RawProgram, Role, Section, Target, Text, Texts,
+    Items, Kind, Op, Operand, Param, Place, Program, ProgramFault, RawOp, RawOps, RawParam,
+    RawParams, RawProgram, Role, Section, Target, Text, Texts,
 };
 
 // Copies of one word.
@@ -144,6 +144,41 @@ fn is_full(param: &Param) -> bool {
         && bounds.high == 18_446_744_073_709_551_615)
 }
 
+fn is_array(param: &Param, name: &str, words: usize) -> bool {
+    param.name.as_str() == name && param.bounds.items().len() == words && is_full(param)
+}
+
+fn is_output(param: &Param) -> bool {
+    matches!(param.role, Role::Output) && is_array(param, "out1", 1)
+}
+
+fn is_input(param: &Param) -> bool {
+    matches!(param.role, Role::InputArray) && is_array(param, "arg1", 32)
+}
+
+fn are_copy_params(params: &[Param]) -> bool {
+    match params {
+        [output, input] => is_output(output) && is_input(input),
+        _ => false,
+    }
+}
+
+fn reads_word_31(op: &Op) -> bool {
+    matches!(op.kind, Kind::Copy)
+        && matches!(op.args.items(), [Operand::Input { param: 1, word: 31 }])
+}
+
+fn writes_word_0(op: &Op) -> bool {
+    matches!(op.targets.items(), [Target::Output { param: 0, word: 0 }])
+}
+
+fn are_copy_ops(ops: &[Op]) -> bool {
+    match ops {
+        [copy] => reads_word_31(copy) && writes_word_0(copy),
+        _ => false,
+    }
+}
+
 #[test]
 fn a_copy_is_read(rt: HostRuntime) -> Result<(), Fail> {
     let parts = parts(
@@ -152,23 +187,8 @@ fn a_copy_is_read(rt: HostRuntime) -> Result<(), Fail> {
     )?;
     let program = Program::new(rt.alloc(), &parts)?;
     assert_eq!(rt; program.name().as_str(), "copy1");
-    let [output, input] = program.params() else {
-        return Err(Fail::new("not two parameters"));
-    };
-    assert_eq!(rt; output.name.as_str(), "out1");
-    assert!(rt; matches!(output.role, Role::Output));
-    assert_eq!(rt; output.bounds.items().len(), 1);
-    assert!(rt; is_full(output));
-    assert_eq!(rt; input.name.as_str(), "arg1");
-    assert!(rt; matches!(input.role, Role::InputArray));
-    assert_eq!(rt; input.bounds.items().len(), 32);
-    assert!(rt; is_full(input));
-    let [copy] = program.ops() else {
-        return Err(Fail::new("not one operation"));
-    };
-    assert!(rt; matches!(copy.kind, Kind::Copy));
-    assert!(rt; matches!(copy.args.items(), [Operand::Input { param: 1, word: 31 }]));
-    assert!(rt; matches!(copy.targets.items(), [Target::Output { param: 0, word: 0 }]));
+    assert!(rt; are_copy_params(program.params()));
+    assert!(rt; are_copy_ops(program.ops()));
     Ok(())
 }
 

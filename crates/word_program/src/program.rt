@@ -68,6 +68,7 @@ impl Program {
     }
 }
 
+/// The copy of this form under this name.
 fn program_in(alloc: Global, name: &Text, form: &CopyForm<'_>) -> Result<Program, AllocError>
     requires index { form.now.index < form.now.words }
     requires words { form.now.words ≤ 32 }
