@@ -1,0 +1,8 @@
+//! The tests of the commands, over a shelf in memory. They stand here and not in `search_top`, since a library
+//! with a test of its own is proved twice.
+#![tactic(auto)]
+
+#[cfg(test)]
+mod ends;
+#[cfg(test)]
+mod search;
