@@ -1,1 +1,12 @@
+pub mod ParamLemmas
+pub mod NameLemmas
+pub mod MissingLemmas
+pub mod RowLemmas
+pub mod BodyLemmas
+pub mod ParamKept
+pub mod AcceptedLemmas
+pub mod InputLemmas
 pub mod CopyLemmas
+pub mod OperandKept
+pub mod OpsKept
+pub mod WrittenKept

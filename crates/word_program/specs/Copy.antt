@@ -1,21 +1,19 @@
--- The programs that are accepted: one copy of an input word to an output array of one word.
-use Rattle.std.specs.Prelude.{◌≡◌, ℕ, ◌<◌, ◌≤◌, Bool, not, ◌&&◌, List, [], ◌∷◌, replicate, codes, Option, Some, None, is_none, Result, Ok, Err}
-use Rattle.std.specs.Str.{bytes_eq}
+-- The programs that copy one word of an input array to an output array of one word, with no bounds.
+use Rattle.std.specs.Prelude.{◌≡◌, ℕ, ◌-◌, ◌^◌, ◌<◌, ◌≤◌, Bool, true, false, ◌&&◌, ◌==◌, nat_lt, nat_le, List, [], ◌∷◌, length, replicate, Option, None}
+use Rattle.std.specs.List.{list_all}
+use Rattle.word_text.specs.Options.{◌>>=◌, holds, only}
+use Rattle.word_program.specs.declared.parameter.Bounds.{Bounds}
 use Rattle.word_program.specs.declared.parameter.Param.{Param}
 use Rattle.word_program.specs.declared.parameter.Role.TheVariants.{Output, InputArray}
 use Rattle.word_program.specs.declared.operation.Op.{Op}
-use Rattle.word_program.specs.declared.operation.Kind.TheVariants as kinds
+use Rattle.word_operations.specs.declared.kind.Kind.{Kind}
+use Rattle.word_operations.specs.declared.kind.Kind.TheVariants as kinds
+use Rattle.word_program.specs.declared.operation.Operand.{Operand}
 use Rattle.word_program.specs.declared.operation.Operand.TheVariants as operands
+use Rattle.word_program.specs.declared.operation.Target.{Target}
 use Rattle.word_program.specs.declared.operation.Target.TheVariants as targets
-use Rattle.word_program.specs.declared.parts.RawParam.{RawParam}
-use Rattle.word_program.specs.declared.parts.RawProgram.{RawProgram}
-use Rattle.word_program.specs.declared.fault.Place.{Place}
-use Rattle.word_program.specs.declared.fault.ProgramFault.{ProgramFault}
-use Rattle.word_program.specs.declared.fault.ProgramFault.TheVariants.{Rule, Memory}
-use Rattle.word_program.specs.declared.fault.Section.TheVariants.{Top}
-use Rattle.word_program.specs.Options.{◌>>=◌, holds, only}
-use Rattle.word_program.specs.Texts.{is_identifier, word_text, index_in}
 use Rattle.word_program.specs.Program.{Source, full}
+use Rattle.word_program.specs.Values.{is_output, is_input_array}
 
 -- an array of one word to write, and one of `words` words to read
 abbrev pub copy_params : List ℕ → List ℕ → ℕ → List Param
@@ -32,32 +30,8 @@ copy_ops index = record { kind = kinds.Copy; args = operands.Input 1 index ∷ [
 abbrev pub copy_of : List ℕ → List ℕ → List ℕ → ℕ → ℕ → Source
 copy_of name output input words index = record { name = name; params = copy_params output input words; ops = copy_ops index }
 
--- a parameter under an identifier and without bounds
-unfoldable pub is_plain : RawParam → Bool
-is_plain param = is_identifier param.name && (is_none param.low && is_none param.high)
-
--- one word to write and words to read, under two identifiers and without bounds
-unfoldable pub are_parameters : RawParam → RawParam → Bool
-are_parameters output input = is_plain output && (is_plain input && (not (bytes_eq output.name input.name) && bytes_eq output.datatype (codes "u64[1]")))
-
--- the program that the parts are, where they are one: one return of one word and one argument of 1 to 32
--- words, without bounds and under different identifiers, and one copy between their words
-unfoldable pub program_of : RawProgram → Option Source
-program_of raw = do
-  output ← only raw.returns
-  input ← only raw.arguments
-  copy ← only raw.body
-  result ← only copy.results
-  argument ← only copy.arguments
-  words ← index_in (codes "u64") 1 32 input.datatype
-  index ← index_in input.name 0 words argument
-  holds
-      (is_identifier raw.name && (are_parameters output input
-      && (bytes_eq copy.operation (codes "=") && bytes_eq result (word_text output.name 0))))
-      (copy_of raw.name output.name input.name words index)
-
--- a program is one of these
-pub record IsAccepted (source : Source) : Type 0 where
+-- the program is one of these
+pub record IsCopy (source : Source) : Type 0 where
   pub name : List ℕ
   pub output : List ℕ
   pub input : List ℕ
@@ -67,20 +41,43 @@ pub record IsAccepted (source : Source) : Type 0 where
   pub words_limit : words ≤ 32
   pub is : source ≡ copy_of name output input words index
 
--- the place of the program as a whole
-abbrev pub top : Place
-top = record { section = Top; item = 0; inner = 0 }
+abbrev pub is_full : Bounds → Bool
+is_full b = b.low == 0 && b.high == 2 ^ 64 - 1
 
--- why nothing came of parts that are read as this: they break the one rule, or there is no memory
-abbrev pub Fails : {X : Type 0} → ProgramFault → Option X → Type 0
-Fails (Rule code place) read = (code ≡ 7) × (place ≡ top) × (read ≡ None)
-Fails Memory read = Unit {0}
+-- how many words the input array has, where the parameters are those of a copy
+abbrev pub copied_words : List Param → Option ℕ
+copied_words [] = None
+copied_words (output ∷ []) = None
+copied_words (output ∷ input ∷ []) =
+    holds (is_output output.role && (length output.bounds == 1 && (list_all is_full output.bounds && (is_input_array input.role && list_all is_full input.bounds)))) (length input.bounds)
+copied_words (output ∷ input ∷ p ∷ ps) = None
 
--- what a step gives, where its parts are read as this: the value that they are, or why there is none
-abbrev pub Gives : {X Y : Type 0} → (X → Y) → Result X ProgramFault → Option Y → Type 0
-Gives view (Ok x) read = read ≡ Some (view x)
-Gives view (Err fault) read = Fails fault read
+abbrev pub is_copy_kind : Kind → Bool
+is_copy_kind kinds.Copy = true
+is_copy_kind kind = false
 
--- why there is no program of these parts: they are none, or there is no memory
-abbrev pub Refuses : RawProgram → ProgramFault → Type 0
-Refuses parts fault = Fails fault (program_of parts)
+abbrev pub read_word : Operand → Option ℕ
+read_word (operands.Literal n) = None
+read_word (operands.Input param word) = holds (param == 1) word
+read_word (operands.Value number) = None
+
+abbrev pub writes_first : Target → Bool
+writes_first targets.Value = false
+writes_first targets.Unused = false
+writes_first (targets.Output param word) = param == 0 && word == 0
+
+-- the word that is copied, where the operations are one copy
+abbrev pub copied_index : List Op → Option ℕ
+copied_index ops = do
+  op ← only ops
+  argument ← only op.args
+  target ← only op.targets
+  index ← read_word argument
+  holds (is_copy_kind op.kind && writes_first target) index
+
+-- how many words the input array of a copy has, and which one is copied
+unfoldable pub copy_form : Source → Option (ℕ × ℕ)
+copy_form source = do
+  words ← copied_words source.params
+  index ← copied_index source.ops
+  holds (nat_lt index words && nat_le words 32) (words, index)

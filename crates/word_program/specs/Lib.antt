@@ -1,5 +1,7 @@
-pub mod Options
-pub mod Texts
 pub mod Program
-pub mod Copy
 pub mod Values
+pub mod Walk
+pub mod Rules
+pub mod Accepted
+pub mod Evaluates
+pub mod Copy

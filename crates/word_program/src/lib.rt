@@ -1,24 +1,32 @@
 //! Straight-line programs over 64-bit words: what a program is, which parts make one, and what it computes.
 //!
-//! It promises to whoever holds a [`Program`], as a listing's check or a compiler does, that the rules
-//! accept it (`IsAccepted` of `specs/Copy.antt`): [`Program::params`] and [`Program::ops`] say so. It promises
-//! to whoever reads a file that [`Program::new`] gives the program that the parts are (`program_of`) and refuses
-//! all others, want of memory apart. What a program computes is `output_word` of `specs/Values.antt`.
+//! It promises to whoever reads a file that [`Program::new`] gives a program exactly where its parts break no rule
+//! of `specs/Rules.antt`, and else the first rule that they break, want of memory apart. It promises to whoever
+//! holds a [`Program`], as a listing's check or a compiler does, what every program keeps (`IsAccepted` of
+//! `specs/Accepted.antt`): [`Program::params`] and [`Program::ops`] say so. What a program computes is `values_of`
+//! and `outputs` of `specs/Values.antt`, and [`eval`] gives it.
 #![tactic(auto)]
 
+mod bits;
+mod body;
 mod copy;
-mod fault;
-mod items;
+mod evaluation;
+mod inputs;
+mod lookup;
+mod missing;
 mod operation;
 mod parameter;
-mod parts;
+mod params;
 mod program;
-mod text;
+mod reader;
 
-pub use fault::{Place, ProgramFault, Section};
-pub use items::Items;
-pub use operation::{Kind, Op, Operand, OperandList, Target, TargetList};
+pub use copy::copy_form;
+pub use evaluation::{EvalFault, eval};
+pub use operation::{Op, Operand, OperandList, Target, TargetList};
 pub use parameter::{Bounds, BoundsList, Param, Role};
-pub use parts::{RawOp, RawOps, RawParam, RawParams, RawProgram, Texts};
 pub use program::Program;
-pub use text::Text;
+pub use word_operations::Kind;
+pub use word_text::{
+    Items, Place, ProgramFault, RawOp, RawOps, RawParam, RawParams, RawProgram, Section, Text,
+    Texts,
+};

@@ -1,11 +1,5 @@
-use crate::items::Items;
-
-/// What an operation computes.
-#[derive(Clone, Copy)]
-pub enum Kind {
-    /// `=`: the operand itself.
-    Copy,
-}
+use word_operations::Kind;
+use word_text::Items;
 
 /// A word that an operation reads.
 #[derive(Clone, Copy)]

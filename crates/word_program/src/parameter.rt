@@ -1,5 +1,4 @@
-use crate::items::Items;
-use crate::text::Text;
+use word_text::{Items, Text};
 
 /// The least and the greatest value of a word, both of which it may have.
 #[derive(Clone, Copy)]

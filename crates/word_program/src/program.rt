@@ -1,16 +1,19 @@
-ghost use Rattle.std.specs.Prelude.{◌≡◌, ◌<◌, ◌≤◌, Some, IfOk, IfErr};
-ghost use Rattle.word_program.specs.Copy.{program_of, copy_of, IsAccepted, Refuses};
+ghost use Rattle.std.specs.Prelude.{◌≡◌, ◌<◌, ◌≤◌, ◌+◌, None, IfOk, IfErr, OnOk, length, sum_by};
+ghost use Rattle.word_program.specs.Accepted.{IsAccepted, IsKept};
+ghost use Rattle.word_program.specs.Rules.{first_fault, program_of, top_rules};
+ghost use Rattle.word_program.specs.Values as values;
+ghost use Rattle.word_program.specs.Walk.{IsFault, Meets, at, place_in};
 
-use crate::copy;
-use crate::copy::CopyForm;
-use crate::fault::ProgramFault;
-use crate::items::Items;
-use crate::operation::Op;
+use crate::body::read_body;
+use crate::inputs::{offset_of, output_count};
+use crate::lookup;
+use crate::missing::missing;
+use crate::operation::{Op, Operand, Target};
 use crate::parameter::Param;
-use crate::parts::RawProgram;
-use crate::text::Text;
-use std::alloc::{AllocError, Global};
+use crate::params::{memory, parameters, rule};
+use std::alloc::Global;
 use std::marker::Model;
+use word_text::{Items, ProgramFault, RawProgram, Section, Text, is_identifier};
 
 /// A program that the rules accept. Contracts see it as a `Source`: its name, its parameters, the
 /// returns before the arguments, and its operations in order.
@@ -19,6 +22,8 @@ pub struct Program {
     name: Text,
     params: Items<Param>,
     ops: Items<Op>,
+    targets: Vec<Target>,
+    bits: Vec<bool>,
 }
 
 impl Model for Program {
@@ -28,20 +33,62 @@ impl Model for Program {
 
     ghost view = { λ p. record { name = p.name; params = p.params; ops = p.ops } };
 
-    ghost use Rattle.word_program.specs.Copy.{IsAccepted};
+    ghost use Rattle.word_program.specs.Accepted.{IsKept};
 
-    ghost invariant = { λ p. IsAccepted (record { name = p.name; params = p.params; ops = p.ops }) };
+    ghost invariant = { λ p. IsKept (record { name = p.name; params = p.params; ops = p.ops }) p.targets.items p.bits.items };
+}
+
+/// The rules of the program as a whole.
+#[tactic(auto, unfolding(crate::specs::Rules::top_rules))]
+fn top(parts: &RawProgram) -> Result<(), ProgramFault>
+    ensures fault { Meets result (at (place_in Section.Top 0 0) (top_rules parts.now)) }
+    ensures few { OnOk result (length parts.now.returns + length parts.now.arguments ≤ 6) }
+    ensures short { OnOk result (length parts.now.body ≤ 2048) }
+{
+    if !is_identifier(parts.name.as_str()) {
+        return Err(rule(2, Section::Top, 0, 0));
+    }
+    if 6 < parts.returns.items().len() + parts.arguments.items().len() {
+        return Err(rule(5, Section::Top, 0, 0));
+    }
+    if 2048 < parts.body.items().len() {
+        return Err(rule(6, Section::Top, 0, 0));
+    }
+    if parts.returns.items().len() == 0 {
+        return Err(rule(15, Section::Top, 0, 0));
+    }
+    Ok(())
 }
 
 impl Program {
-    /// The program that the parts are. Where they are none, the fault is that of the rule with code 7
-    /// at the program as a whole, the only rule that is checked; else the fault is want of memory.
+    /// The program that the parts are. Where they break a rule, the fault is that of the first one
+    /// that they break, else it is want of memory.
+    #[tactic(auto, unfolding(crate::specs::Rules::first_fault, crate::specs::Rules::program_of))]
     pub fn new(alloc: Global, parts: &RawProgram) -> Result<Program, ProgramFault>
-        ensures ok { IfOk result (λ program. program_of parts.now ≡ Some program) }
-        ensures err { IfErr result (Refuses parts.now) }
+        ensures accepted { OnOk result (first_fault parts.now ≡ None) }
+        ensures value { IfOk result (λ program. program ≡ program_of parts.now) }
+        ensures err { IfErr result (λ fault. IsFault fault (first_fault parts.now)) }
     {
-        let form = copy::form_of(alloc, parts)?;
-        program_in(alloc, &parts.name, &form).map_err(copy::memory)
+        top(parts)?;
+        let mut params = Items::new(alloc);
+        parameters(alloc, Section::Returns, &mut params, parts.returns.items())?;
+        parameters(
+            alloc,
+            Section::Arguments,
+            &mut params,
+            parts.arguments.items(),
+        )?;
+        let reader = read_body(alloc, params.items(), parts.body.items())?;
+        missing(params.items(), reader.targets())?;
+        let read = reader.into_parts();
+        let name = Text::from_str(alloc, parts.name.as_str()).map_err(memory)?;
+        Ok(Program {
+            name,
+            params,
+            ops: read.ops,
+            targets: read.targets,
+            bits: read.bits,
+        })
     }
 
     /// Its name.
@@ -66,17 +113,41 @@ impl Program {
     {
         self.ops.items()
     }
-}
 
-/// The copy of this form under this name.
-fn program_in(alloc: Global, name: &Text, form: &CopyForm<'_>) -> Result<Program, AllocError>
-    requires index { form.now.index < form.now.words }
-    requires words { form.now.words ≤ 32 }
-    ensures { IfOk result (λ program. program ≡ copy_of name.entry.now form.entry.now.output.now form.entry.now.input.now form.entry.now.words form.entry.now.index) }
-{
-    Ok(Program {
-        name: Text::from_str(alloc, name.as_str())?,
-        params: copy::params_of(alloc, form)?,
-        ops: copy::ops_of(alloc, form.index)?,
-    })
+    /// How many values it has: the results of all operations.
+    pub fn values(&self) -> u32
+        ensures { result ≡ length (values.targets_of self.now.ops) }
+    {
+        self.targets.as_slice().len() as u32
+    }
+
+    /// How many words it reads: all words of its input parameters.
+    #[tactic(auto, using(crate::proofs::InputLemmas::inputs_sum))]
+    pub fn input_words(&self) -> u32
+        ensures { result ≡ length (values.input_bounds self.now.params) }
+    {
+        offset_of(self.params(), 6) as u32
+    }
+
+    /// How many words it writes: all words of its output parameters.
+    pub fn output_words(&self) -> u32
+        ensures { result ≡ values.output_count self.now.params }
+    {
+        output_count(self.params())
+    }
+
+    /// The target of each value, by its value number.
+    pub fn targets(&self) -> &[Target]
+        ensures { result.now ≡ values.targets_of self.now.ops }
+    {
+        self.targets.as_slice()
+    }
+
+    /// Whether an operand is a bit: the literal 0 or 1, an input word of at most 1, or a value that its
+    /// operation makes one.
+    pub fn is_bit(&self, operand: &Operand) -> bool
+        ensures { result ≡ values.is_bit self.now operand.now }
+    {
+        lookup::is_bit_by(self.params.items(), self.bits.as_slice(), *operand)
+    }
 }

@@ -1,0 +1,116 @@
+ghost use Rattle.std.specs.Prelude.{◌≡◌, option_map};
+ghost use Rattle.std.specs.List.{list_all};
+ghost use Rattle.word_text.specs.Texts as spec;
+
+fn is_name_start(byte: u8) -> bool
+    ensures { result ≡ spec.is_name_start byte }
+{
+    byte.is_ascii_alphabetic() || byte == b'_'
+}
+
+fn is_name_byte(byte: u8) -> bool
+    ensures { result ≡ spec.is_name_byte byte }
+{
+    byte.is_ascii_alphanumeric() || byte == b'_'
+}
+
+fn are_name_bytes(bytes: &[u8]) -> bool
+    ensures { result ≡ list_all spec.is_name_byte bytes.now }
+{
+    bytes.iter().all(|byte| is_name_byte(*byte))
+}
+
+/// Whether the text is `_`, the name of a result that nothing reads.
+pub fn is_unused(text: &str) -> bool
+    ensures { result ≡ spec.is_unused text.now }
+{
+    text == "_"
+}
+
+/// Whether the text is an identifier: an ASCII letter or `_`, then letters, digits or `_`, at most 64
+/// bytes, and not `_` alone.
+#[tactic(auto, unfolding(crate::specs::Texts::is_identifier))]
+pub fn is_identifier(text: &str) -> bool
+    ensures { result ≡ spec.is_identifier text.now }
+{
+    match text.as_bytes() {
+        [] => false,
+        [first, rest @ ..] => {
+            is_name_start(*first) && are_name_bytes(rest) && text.len() <= 64 && !is_unused(text)
+        }
+    }
+}
+
+/// Whether the text begins with a decimal digit.
+pub fn starts_with_digit(text: &str) -> bool
+    ensures { result ≡ spec.starts_with_digit text.now }
+{
+    match text.as_bytes() {
+        [] => false,
+        [first, ..] => first.is_ascii_digit(),
+    }
+}
+
+fn are_decimal(bytes: &[u8]) -> bool
+    ensures { result ≡ list_all spec.is_decimal bytes.now }
+{
+    bytes.iter().all(|byte| byte.is_ascii_digit())
+}
+
+/// Whether the text is `0`, or decimal digits of which the first is not 0.
+pub fn is_index(text: &str) -> bool
+    ensures { result ≡ spec.is_index text.now }
+{
+    match text.as_bytes() {
+        [] => false,
+        [only] => only.is_ascii_digit(),
+        [first, rest @ ..] => first.is_ascii_digit() && *first != b'0' && are_decimal(rest),
+    }
+}
+
+fn cut_at_opening(text: &str) -> Option<(&str, &str)>
+    ensures { option_map (λ p. (p.0.now, p.1.now)) result ≡ spec.cut 91 text.entry.now }
+{
+    text.split_once('[')
+}
+
+fn cut_at_closing(text: &str) -> Option<(&str, &str)>
+    ensures { option_map (λ p. (p.0.now, p.1.now)) result ≡ spec.cut 93 text.entry.now }
+{
+    text.split_once(']')
+}
+
+/// What stands before brackets at the end of a text, and in them.
+#[tactic(auto, unfolding(crate::specs::Texts::bracketed))]
+pub fn bracketed(text: &str) -> Option<(&str, &str)>
+    ensures { option_map (λ p. (p.0.now, p.1.now)) result ≡ spec.bracketed text.entry.now }
+{
+    let (name, rest) = cut_at_opening(text)?;
+    let (index, after) = cut_at_closing(rest)?;
+    if after == "" {
+        Some((name, index))
+    } else {
+        None
+    }
+}
+
+/// The name and the index of `name[index]`, where the name is an identifier, and the index is `0` or digits of
+/// which the first is not 0.
+#[tactic(auto, unfolding(crate::specs::Texts::word_parts))]
+pub fn word_parts(text: &str) -> Option<(&str, &str)>
+    ensures { option_map (λ p. (p.0.now, p.1.now)) result ≡ spec.word_parts text.entry.now }
+{
+    let (name, index) = bracketed(text)?;
+    if is_identifier(name) && is_index(index) {
+        Some((name, index))
+    } else {
+        None
+    }
+}
+
+/// Whether the text has the form `name[index]`. No identifier has it.
+pub fn is_word_form(text: &str) -> bool
+    ensures { result ≡ spec.is_word_form text.now }
+{
+    !is_identifier(text) && !is_unused(text) && word_parts(text).is_some()
+}
