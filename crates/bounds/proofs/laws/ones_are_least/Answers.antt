@@ -1,0 +1,5 @@
+use Rattle.bounds.proofs.TableLemmas.{least_ones}
+use Rattle.bounds.proofs.laws.ones_are_least.Goals as goal
+
+pub returns : goal.returns
+returns c = least_ones
