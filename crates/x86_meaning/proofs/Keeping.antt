@@ -1,6 +1,6 @@
 -- That a run keeps the memory: words of areas that are apart have different places, and a store to an
 -- output array or to the frame leaves all the other cells.
-use Rattle.std.proofs.Common.{◌≡◌, ◌≢◌, ℕ, ◌/◌, ◌<◌, ◌≤◌, true, false, not, ◌&&◌, List, length, Option, Some, None, IsSome, IsTrue, slice_get, if◌then◌else◌, refl, sym, ◌∙◌, subst, arith, lt_of_lt_of_le}
+use Rattle.std.proofs.Common.{◌≡◌, ◌≢◌, ℕ, ◌/◌, ◌<◌, ◌≤◌, true, false, not, List, length, Option, Some, None, IsSome, IsTrue, slice_get, if◌then◌else◌, refl, sym, ◌∙◌, subst, arith, lt_of_lt_of_le}
 use Rattle.std.specs.Option.{option_map_or}
 use Rattle.std.specs.FinMap as map
 use Rattle.word_program.specs.declared.parameter.Param.{Param}
@@ -8,9 +8,11 @@ use Rattle.word_program.specs.declared.parameter.Role.{Role}
 use Rattle.word_program.specs.declared.parameter.Role.TheVariants.{Output, InputArray, InputScalar}
 use Rattle.word_program.specs.Program.{Source}
 use Rattle.word_program.specs.Values.{is_output, is_input_array, is_scalar, input_word}
-use Rattle.x86_meaning.specs.declared.listing.Line.{Line}
-use Rattle.x86_meaning.specs.Machine.{State, Cells}
-use Rattle.x86_meaning.specs.Start.{Area, Array, Frame, Return, array_words, output_words, input_array_words, area_words, place_of, is_apart, frame_of, IsStart}
+use Rattle.x86_instr.specs.declared.line.Line.{Line}
+use Rattle.x86_meaning.specs.declared.state.State.{State}
+use Rattle.x86_meaning.specs.Machine.{Cells}
+use Rattle.x86_instr.specs.Frame.{frame_of}
+use Rattle.x86_meaning.specs.Start.{Area, Array, Frame, Return, array_words, output_words, input_array_words, area_words, place_of, is_apart, IsStart}
 use Rattle.x86_meaning.specs.Correct.{IsOutside, Keeps}
 use Rattle.x86_meaning.proofs.Memory.{get_put_other, has_put}
 

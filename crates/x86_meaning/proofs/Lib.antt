@@ -1,5 +1,10 @@
-pub mod Memory
-pub mod Keeping
-pub mod Stepping
-pub mod RegisterLemmas
 pub mod Overflow
+pub mod Memory
+pub mod RegisterLemmas
+pub mod Stepping
+pub mod Keeping
+pub mod Entries
+pub mod Funnel
+pub mod FrameLimits
+pub mod StatedIsStart
+pub mod StuckLines

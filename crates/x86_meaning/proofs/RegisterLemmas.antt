@@ -1,8 +1,10 @@
 -- What the registers hold after a write, and registers as sixteen variables.
 use Rattle.std.proofs.Common.{◌≡◌, ℕ, suc, ◌+◌, ◌<◌, ◌≢◌, List, [], ◌∷◌, length, slice_index_or, refl, sym, ap, ◌∙◌, subst, arith, length-set, get_or-set_same, get_or-set_other}
-use Rattle.x86_meaning.specs.declared.instr.Reg.{Reg}
-use Rattle.x86_meaning.specs.declared.instr.Reg.TheVariants.{Rax, Rcx, Rdx, Rbx, Rsp, Rbp, Rsi, Rdi, R8, R9, R10, R11, R12, R13, R14, R15}
-use Rattle.x86_meaning.specs.Machine.{State, reg, number_of, with_reg}
+use Rattle.x86_instr.specs.declared.operand.Reg.{Reg}
+use Rattle.x86_instr.specs.declared.operand.Reg.TheVariants.{Rax, Rcx, Rdx, Rbx, Rsp, Rbp, Rsi, Rdi, R8, R9, R10, R11, R12, R13, R14, R15}
+use Rattle.x86_meaning.specs.declared.state.State.{State}
+use Rattle.x86_instr.specs.Registers.{number_of}
+use Rattle.x86_meaning.specs.Machine.{reg, with_reg}
 
 -- ---- numbers of registers
 

@@ -2,9 +2,11 @@
 use Rattle.std.proofs.Common.{◌≡◌, ℕ, ◌+◌, Bool, true, false, List, [], ◌∷◌, Option, Some, None, IsSome, MatchOption, MatchBool, option_map, option_and_then, if◌then◌else◌, refl, sym, ap, ◌∙◌, subst}
 use Rattle.std.specs.Option.{option_map_or}
 use Rattle.std.specs.FinMap as map
-use Rattle.x86_meaning.specs.declared.listing.Line.{Line}
-use Rattle.x86_meaning.specs.Machine.{State, loaded, stored, step_of}
-use Rattle.x86_meaning.specs.Runs.{Runs, Ended, Stuck, is_ret, run_from}
+use Rattle.x86_instr.specs.declared.line.Line.{Line}
+use Rattle.x86_meaning.specs.declared.state.State.{State}
+use Rattle.x86_meaning.specs.Machine.{loaded, stored, step_of}
+use Rattle.x86_instr.specs.Listings.{is_ret}
+use Rattle.x86_meaning.specs.Runs.{Runs, Ended, Stuck, run_from}
 
 -- ---- one step
 
@@ -52,20 +54,20 @@ on_line P Q line lines s t e p step rest =
 -- ---- the whole run
 
 -- a step that is not stuck hands on how the rest ends
-step_ends : (P Q : State → Type 0) (lines : List Line) (number : ℕ) (o : Option State)
+step_ends : (P Q : State → Type 0) (lines : List Line) (number : ℕ) (s : State) (o : Option State)
     → ((t : State) → Runs P Q lines t → (u : State) × (run_from (number + 1) lines t ≡ Ended u) × Q u)
     → MatchOption o ⊥ (λ t. Runs P Q lines t)
-    → (u : State) × (option_map_or (λ t. run_from (number + 1) lines t) o (Stuck number) ≡ Ended u) × Q u
-step_ends P Q lines number None later h = absurd h
-step_ends P Q lines number (Some t) later h = later t h
+    → (u : State) × (option_map_or (λ t. run_from (number + 1) lines t) o (Stuck number s) ≡ Ended u) × Q u
+step_ends P Q lines number s None later h = absurd h
+step_ends P Q lines number s (Some t) later h = later t h
 
 -- so does a line
 line_ends : (P Q : State → Type 0) (lines : List Line) (number : ℕ) (s : State) (o : Option State) (b : Bool)
     → ((t : State) → Runs P Q lines t → (u : State) × (run_from (number + 1) lines t ≡ Ended u) × Q u)
     → MatchBool b (Q s) (P s × MatchOption o ⊥ (λ t. Runs P Q lines t))
-    → (u : State) × ((if b then Ended s else option_map_or (λ t. run_from (number + 1) lines t) o (Stuck number)) ≡ Ended u) × Q u
+    → (u : State) × ((if b then Ended s else option_map_or (λ t. run_from (number + 1) lines t) o (Stuck number s)) ≡ Ended u) × Q u
 line_ends P Q lines number s o true later q = (s, refl, q)
-line_ends P Q lines number s o false later h = step_ends P Q lines number o later h.1
+line_ends P Q lines number s o false later h = step_ends P Q lines number s o later h.1
 
 -- a run that goes through ends, in a state with Q
 pub runs_end : (P Q : State → Type 0) (lines : List Line) (number : ℕ) (s : State) → Runs P Q lines s

@@ -7,12 +7,14 @@ use Rattle.std.specs.FinMap as map
 use Rattle.word_program.specs.declared.parameter.Param.{Param}
 use Rattle.word_program.specs.Program.{Source}
 use Rattle.word_program.specs.Values.{output_word}
-use Rattle.x86_meaning.specs.declared.instr.Reg.{Reg}
-use Rattle.x86_meaning.specs.declared.instr.Reg.TheVariants.{Rbx, Rsp, Rbp, R12, R13, R14, R15}
-use Rattle.x86_meaning.specs.declared.listing.Line.{Line}
-use Rattle.x86_meaning.specs.Machine.{State, Cells, reg}
+use Rattle.x86_instr.specs.declared.operand.Reg.{Reg}
+use Rattle.x86_instr.specs.declared.operand.Reg.TheVariants.{Rbx, Rsp, Rbp, R12, R13, R14, R15}
+use Rattle.x86_instr.specs.declared.line.Line.{Line}
+use Rattle.x86_meaning.specs.declared.state.State.{State}
+use Rattle.x86_meaning.specs.Machine.{Cells, reg}
 use Rattle.x86_meaning.specs.Runs.{Runs}
-use Rattle.x86_meaning.specs.Start.{Array, Frame, output_words, area_words, place_of, frame_of, IsStart}
+use Rattle.x86_instr.specs.Frame.{frame_of}
+use Rattle.x86_meaning.specs.Start.{Array, Frame, output_words, area_words, place_of, IsStart}
 
 -- the place is in none of the output arrays, and not in the frame
 pub record IsOutside (params : List Param) (frame : ℕ) (s : State) (place : ℕ) : Type 0 where

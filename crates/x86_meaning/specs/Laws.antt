@@ -1,11 +1,12 @@
 -- What the laws of this crate say.
-use Rattle.std.specs.Prelude.{◌≡◌, ℕ, List, ℤ, pos, ◌+ℤ◌, ◌-ℤ◌}
+use Rattle.std.specs.Prelude.{◌≡◌, ℕ, ◌-◌, List, Some, None, slice_get, ℤ, pos, ◌+ℤ◌, ◌-ℤ◌}
 use Rattle.std.specs.Int.{cast_signed, w64}
 use Rattle.word_program.specs.Program.{Source}
-use Rattle.x86_meaning.specs.declared.listing.Line.{Line}
-use Rattle.x86_meaning.specs.Machine.{State}
+use Rattle.x86_instr.specs.declared.line.Line.{Line}
+use Rattle.x86_meaning.specs.declared.state.State.{State}
+use Rattle.x86_meaning.specs.Machine.{step_of}
 use Rattle.x86_meaning.specs.Runs.{Ended, run_from}
-use Rattle.x86_meaning.specs.Start.{frame_of}
+use Rattle.x86_instr.specs.Frame.{frame_of}
 use Rattle.x86_meaning.specs.Correct.{Returns}
 
 -- the run from the start state s, as it is computed, ends with what the program asks for
@@ -19,3 +20,7 @@ signed_sum d b carry = cast_signed w64 d +ℤ cast_signed w64 b +ℤ pos carry
 -- the exact difference, with signs, of two words and a borrow
 abbrev pub signed_difference : ℕ → ℕ → ℕ → ℤ
 signed_difference d b borrow = cast_signed w64 d -ℤ cast_signed w64 b -ℤ pos borrow
+
+-- the number is that of a line, counted from 1, which is stuck in the state
+abbrev pub IsStuckAt : List Line → ℕ → State → Type 0
+IsStuckAt lines number s = (line : Line) × (slice_get lines (number - 1) ≡ Some line) × (step_of line.instr s ≡ None)

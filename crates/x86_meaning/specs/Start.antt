@@ -1,51 +1,18 @@
 -- The states in which a function may start (System V AMD64 psABI, sections 3.2.2 and 3.2.3: the stack
 -- frame, and parameter passing), with its parameters in registers and their arrays in the memory.
-use Rattle.std.specs.Prelude.{◌≡◌, ◌≢◌, ℕ, ◌+◌, ◌-◌, ◌*◌, ◌/◌, ◌%◌, ◌^◌, ◌<◌, ◌≤◌, Bool, true, false, not, ◌&&◌, ◌==◌, nat_le, List, [], ◌∷◌, length, Some, slice_get, slice_index_or, if◌then◌else◌, pos, negsuc, IsTrue, IsSome}
+use Rattle.std.specs.Prelude.{◌≡◌, ◌≢◌, ℕ, ◌+◌, ◌-◌, ◌*◌, ◌/◌, ◌%◌, ◌^◌, ◌<◌, ◌≤◌, Bool, true, false, not, List, [], ◌∷◌, length, Some, slice_get, slice_index_or, if◌then◌else◌, IsTrue, IsSome}
 use Rattle.std.specs.Option.{option_map_or}
 use Rattle.std.specs.FinMap as map
 use Rattle.word_program.specs.declared.parameter.Param.{Param}
 use Rattle.word_program.specs.declared.parameter.Role.{Role}
 use Rattle.word_program.specs.Program.{Source}
 use Rattle.word_program.specs.Values.{is_output, is_input_array, is_scalar, input_word, input_bounds, AreWithin}
-use Rattle.x86_meaning.specs.declared.instr.Reg.{Reg}
-use Rattle.x86_meaning.specs.declared.instr.Reg.TheVariants.{Rcx, Rdx, Rsp, Rsi, Rdi, R8, R9}
-use Rattle.x86_meaning.specs.declared.instr.Src.{Src}
-use Rattle.x86_meaning.specs.declared.instr.Src.TheVariants as srcs
-use Rattle.x86_meaning.specs.declared.instr.Bin.{Bin}
-use Rattle.x86_meaning.specs.declared.instr.Bin.TheVariants.{Add, Sub}
-use Rattle.x86_meaning.specs.declared.instr.Instr.{Instr}
-use Rattle.x86_meaning.specs.declared.instr.Instr.TheVariants as instrs
-use Rattle.x86_meaning.specs.declared.listing.Line.{Line}
-use Rattle.x86_meaning.specs.Machine.{State, IsState, reg, number_of}
-
--- ---- the frame
-
--- a multiple of 8 from 8 to 32,816
-abbrev pub is_frame : ℕ → Bool
-is_frame n = n % 8 == 0 && (nat_le 8 n && nat_le n 32816)
-
-abbrev pub frame_in : Src → ℕ
-frame_in (srcs.Reg r) = 0
-frame_in (srcs.Mem mem) = 0
-frame_in (srcs.Imm (pos n)) = if is_frame n then n else 0
-frame_in (srcs.Imm (negsuc n)) = 0
-
-abbrev pub frame_by : Bin → Reg → Src → ℕ
-frame_by Add dst src = 0
-frame_by Sub dst src = if number_of dst == number_of Rsp then frame_in src else 0
-
-abbrev pub reserved_by : Instr → ℕ
-reserved_by (instrs.Mov dst src) = 0
-reserved_by (instrs.MovImm dst imm) = 0
-reserved_by (instrs.Store mem src) = 0
-reserved_by (instrs.Bin op dst src) = frame_by op dst src
-reserved_by instrs.Ret = 0
-
--- the bytes of the stack that a listing reserves: F where its first line is `sub rsp, F` with such an F,
--- else 0
-abbrev pub frame_of : List Line → ℕ
-frame_of [] = 0
-frame_of (line ∷ lines) = reserved_by line.instr
+use Rattle.x86_instr.specs.declared.operand.Reg.{Reg}
+use Rattle.x86_instr.specs.declared.operand.Reg.TheVariants.{Rcx, Rdx, Rsp, Rsi, Rdi, R8, R9}
+use Rattle.x86_instr.specs.declared.line.Line.{Line}
+use Rattle.x86_instr.specs.Frame.{frame_of}
+use Rattle.x86_meaning.specs.declared.state.State.{State}
+use Rattle.x86_meaning.specs.Machine.{IsState, reg}
 
 -- ---- the places of arrays and stack
 

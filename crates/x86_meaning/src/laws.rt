@@ -1,13 +1,18 @@
 //! Laws of the definitions: functions that do nothing, whose contracts are the laws.
 
-ghost use Rattle.std.specs.Prelude.{◌≡◌, ℕ, ◌+◌, ◌-◌, ◌^◌, ◌≤◌, ◌↔◌, false, List, FitsSigned};
+ghost use Rattle.std.specs.Prelude.{◌≡◌, ℕ, ◌+◌, ◌-◌, ◌^◌, ◌≤◌, ◌↔◌, true, false, List, FitsSigned};
 ghost use Rattle.std.specs.Int.{w64};
 ghost use Rattle.word_program.specs.Program.{Source};
-ghost use Rattle.x86_meaning.specs.declared.listing.Line.{Line};
+ghost use Rattle.word_program.specs.Values.{input_bounds, AreWithin};
+ghost use Rattle.x86_instr.specs.declared.line.Line.{Line};
 ghost use Rattle.x86_meaning.specs.Correct.{IsCorrect};
-ghost use Rattle.x86_meaning.specs.Laws.{EndsReturning, signed_difference, signed_sum};
-ghost use Rattle.x86_meaning.specs.Machine.{State, IsWord, overflows, raised};
+ghost use Rattle.x86_meaning.specs.Laws.{EndsReturning, IsStuckAt, signed_difference, signed_sum};
+ghost use Rattle.x86_meaning.specs.declared.state.State.{State};
+ghost use Rattle.x86_meaning.specs.Machine.{IsWord, overflows, raised};
+ghost use Rattle.x86_instr.specs.Listings.{ends_at_ret};
+ghost use Rattle.x86_meaning.specs.Runs.{run_from, Stuck};
 ghost use Rattle.x86_meaning.specs.Start.{IsStart};
+ghost use Rattle.x86_meaning.specs.Stated.{AreParams, AreWords, IsStated};
 
 /// The run of a correct listing from a start state, computed line by line, ends at `ret` in a state
 /// with the program's outputs and the preserved registers, in which no other cell has changed.
@@ -20,4 +25,16 @@ pub fn correct_listing_ends()
 pub fn overflow_is_signed()
     ensures sum { (d b carry : ℕ) → IsWord d → IsWord b → carry ≤ 1 → (overflows (raised d + raised b + carry) ≡ false) ↔ FitsSigned w64 (signed_sum d b carry) }
     ensures difference { (d b borrow : ℕ) → IsWord d → IsWord b → borrow ≤ 1 → (overflows (raised d + 2 ^ 64 - (raised b + borrow)) ≡ false) ↔ FitsSigned w64 (signed_difference d b borrow) }
+{}
+
+/// The stated start state of a listing, for a program of at most six parameters with arrays of at most 32
+/// words, is a start for inputs that are words within their bounds.
+pub fn stated_state_is_start()
+    ensures { (program : Source) (lines : List Line) (inputs : List ℕ) (s : State) → AreParams program.params → AreWords inputs → AreWithin inputs (input_bounds program.params) → IsStated program lines inputs s → IsStart program lines inputs s }
+{}
+
+/// The line at which a listing's run is stuck is one of its lines, and that instruction is stuck in the state
+/// before it.
+pub fn stuck_line_is_stuck()
+    ensures { (lines : List Line) (s : State) → ends_at_ret lines ≡ true → (number : ℕ) (t : State) → run_from 1 lines s ≡ Stuck number t → IsStuckAt lines number t }
 {}

@@ -1,15 +1,27 @@
-//! What x86-64 listings mean: instructions, the machine's states and steps, the states in which the
-//! calling convention lets a function start, and what it is for a listing to be correct for a program.
+//! What x86-64 listings mean: the machine's states and steps, the states in which the calling convention
+//! lets a function start, and what it is for a listing to be correct for a program.
+//!
+//! It promises to whoever runs listings, as an emulator does, that [`step`] is the step of the definitions
+//! and [`run`] their run, both exactly, and that neither takes memory.
 //!
 //! The definitions are in `specs/`: `Machine` (states and steps), `Runs` (a listing's run), `Start`
-//! (the calling convention) and `Correct`. The instructions follow the Intel Software Developer's
-//! Manual, volume 2, at 64-bit operand size, and the start states the System V AMD64 psABI.
+//! (the calling convention), `Stated` (one start state) and `Correct`. The instructions follow the Intel
+//! Software Developer's Manual, volume 2, at 64-bit operand size, and the start states the System V AMD64
+//! psABI.
 #![tactic(auto)]
 
-mod instr;
+mod arithmetic;
+mod cells;
+mod execution;
 mod laws;
-mod listing;
+mod listing_run;
+mod shifts;
+mod state;
 
-pub use instr::{Bin, Index, Instr, Mem, Reg, Rm, Src};
-pub use laws::{correct_listing_ends, overflow_is_signed};
-pub use listing::{Line, Lines, Listing};
+pub use cells::Cells;
+pub use execution::step;
+pub use laws::{
+    correct_listing_ends, overflow_is_signed, stated_state_is_start, stuck_line_is_stuck,
+};
+pub use listing_run::{Stuck, run};
+pub use state::State;

@@ -1,4 +1,4 @@
-use Rattle.x86_meaning.specs.Start.{frame_of}
+use Rattle.x86_instr.specs.Frame.{frame_of}
 use Rattle.x86_meaning.specs.Correct.{Keeps, Returns}
 use Rattle.x86_meaning.proofs.Stepping.{runs_end}
 use Rattle.x86_meaning.proofs.laws.correct_listing_ends.Goals as goal

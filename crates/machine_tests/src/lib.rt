@@ -1,0 +1,12 @@
+//! The tests of the crates that say what instructions do and run them. They stand here and not in those
+//! crates, since a library with a test of its own is proved twice.
+#![tactic(auto)]
+
+#[cfg(test)]
+mod named;
+#[cfg(test)]
+mod rows;
+#[cfg(test)]
+mod runs;
+#[cfg(test)]
+mod steps;

@@ -1,0 +1,148 @@
+//! The steps of the rows, by the public calls of `x86_meaning`.
+ghost use Rattle.std.specs.Prelude.{◌≡◌, false, IfSome};
+ghost use Rattle.x86_instr.specs.Listings.{is_ret};
+
+use crate::named::instr_named;
+use crate::rows::{ROWS, STUCK};
+use std::alloc::{AllocError, Global};
+use x86_instr::Instr;
+use x86_meaning::{Cells, State, step};
+
+// The place of the one cell of memory, to which `rbx` points.
+const CELL: u64 = 4096;
+
+// The words and the flags of a state.
+#[derive(Clone, Copy)]
+struct Values {
+    words: [u64; 4],
+    cf: Option<bool>,
+    of: Option<bool>,
+    zf: Option<bool>,
+}
+
+// The flag with this number in a text of three.
+fn flag(text: &str, number: usize) -> Option<bool> {
+    match text.as_bytes().get(number) {
+        Some(b'0') => Some(false),
+        Some(b'1') => Some(true),
+        _ => None,
+    }
+}
+
+fn values_in(text: &str) -> Option<Values> {
+    let mut words = [0; 4];
+    let mut parts = text.split_whitespace();
+    for word in &mut words {
+        *word = u64::from_str_radix(parts.next()?, 16).ok()?;
+    }
+    let flags = parts.next()?;
+    Some(Values {
+        words,
+        cf: flag(flags, 0),
+        of: flag(flags, 1),
+        zf: flag(flags, 2),
+    })
+}
+
+fn state_of(alloc: Global, values: Values) -> Result<State, AllocError> {
+    let mut cells = Cells::new(alloc);
+    cells.set(CELL, values.words[3])?;
+    let mut regs = [0; 16];
+    regs[0] = values.words[0];
+    regs[1] = values.words[1];
+    regs[2] = values.words[2];
+    regs[3] = CELL;
+    Ok(State {
+        regs,
+        cf: values.cf,
+        of: values.of,
+        zf: values.zf,
+        cells,
+    })
+}
+
+// Whether the state has these words and flags, and all else as `state_of` sets it.
+fn has(state: &State, values: Values) -> bool {
+    let [a, b, c, cell] = values.words;
+    state.regs == [a, b, c, CELL, 0, 0, 0, 0, 0, 0, 0, 0, 0, 0, 0, 0]
+        && state.cells.get(CELL) == Some(cell)
+        && state.cf == values.cf
+        && state.of == values.of
+        && state.zf == values.zf
+}
+
+// The instruction with this text, which is not `ret`.
+fn instr_of(text: &str) -> Option<Instr>
+    ensures { IfSome result (λ instr. is_ret instr ≡ false) }
+{
+    let instr = instr_named(text)?;
+    if instr.is_ret() {
+        return None;
+    }
+    Some(instr)
+}
+
+// The parts of a row between its bars.
+fn parts_of(row: &str) -> Option<(&str, &str, &str)> {
+    let (text, rest) = row.split_once(" | ")?;
+    let (before, after) = rest.split_once(" | ")?;
+    Some((text, before, after))
+}
+
+// Whether the step from the first state is not stuck and leads to the second.
+fn leads(instr: &Instr, state: &mut State, after: Values) -> bool
+    requires { is_ret instr.now ≡ false }
+{
+    step(state, instr) && has(state, after)
+}
+
+// Whether the step from the state is stuck and leaves it.
+fn is_stuck(instr: &Instr, state: &mut State, before: Values) -> bool
+    requires { is_ret instr.now ≡ false }
+{
+    !step(state, instr) && has(state, before)
+}
+
+// Whether the instruction with this text leads from the first state to the second.
+fn text_leads(text: &str, state: &mut State, after: Values) -> bool {
+    match instr_of(text) {
+        Some(instr) => leads(&instr, state, after),
+        None => false,
+    }
+}
+
+// Whether the instruction with this text is stuck in the state and leaves it.
+fn text_is_stuck(text: &str, state: &mut State, before: Values) -> bool {
+    match instr_of(text) {
+        Some(instr) => is_stuck(&instr, state, before),
+        None => false,
+    }
+}
+
+#[test]
+fn each_row_is_stepped(rt: HostRuntime) -> Result<(), AllocError> {
+    for row in ROWS {
+        let (text, before, after) = parts_of(row).expect(&rt, "a row has three parts");
+        let before = values_in(before).expect(&rt, "its second part has words and flags");
+        let after = values_in(after).expect(&rt, "its third part has words and flags");
+        let mut state = state_of(rt.alloc(), before)?;
+        assert!(rt; text_leads(text, &mut state, after), "{row}");
+    }
+    Ok(())
+}
+
+#[test]
+fn stuck_rows_leave_the_state(rt: HostRuntime) -> Result<(), AllocError> {
+    for row in STUCK {
+        let (text, flags) = row.split_once(" | ").expect(&rt, "a row has two parts");
+        let before = Values {
+            words: [1, 2, 3, 4],
+            cf: flag(flags, 0),
+            of: flag(flags, 1),
+            zf: flag(flags, 2),
+        };
+        let mut state = state_of(rt.alloc(), before)?;
+        assert!(rt; text_is_stuck(text, &mut state, before), "{row}");
+    }
+    Ok(())
+}

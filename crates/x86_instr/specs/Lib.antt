@@ -1,0 +1,6 @@
+pub mod Registers
+pub mod Ranges
+pub mod Owned
+pub mod Mnemonics
+pub mod Listings
+pub mod Frame
