@@ -1,0 +1,8 @@
+use Rattle.asm_text.proofs.RoundTrip.{reads_back, text_stands}
+use Rattle.asm_text.proofs.laws.reads_back.Goals as goal
+
+pub returns-clause-stands : goal.returns-clause-stands
+returns-clause-stands c = text_stands
+
+pub returns-clause-read : goal.returns-clause-read
+returns-clause-read c = reads_back

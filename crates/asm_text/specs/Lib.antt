@@ -1,0 +1,9 @@
+pub mod Assembly
+pub mod Rows
+pub mod Items
+pub mod Reading
+pub mod Views
+pub mod Faults
+pub mod Texts
+pub mod Laws
+pub mod Fits

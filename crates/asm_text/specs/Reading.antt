@@ -1,0 +1,63 @@
+-- The reading of a text line by line: how far its header has come, and the lines found so far.
+use Rattle.std.specs.Prelude.{ℕ, ◌++◌, List, [], ◌∷◌, Option, Some, None, if◌then◌else◌, Result}
+use Rattle.std.specs.Str.{bytes_eq}
+use Rattle.std.specs.Str.Lines.{lines}
+use Rattle.x86_instr.specs.declared.line.Line.{Line}
+use Rattle.x86_instr.specs.Listings.{NamedLines}
+use Rattle.asm_tokens.specs.Options.{◌>>=◌, pick}
+use Rattle.asm_tokens.specs.Whole.{read_lines}
+use Rattle.asm_text.specs.Items.{Item, blank, syntax_line, text_line, global, label, code, item_in}
+
+-- the header lines that were read
+pub data Stage : Type 0 where
+  start : Stage
+  syntax : Stage
+  text : Stage
+  named : List ℕ → Stage
+  body : List ℕ → Stage
+
+abbrev pub labelled : List ℕ → List ℕ → Option Stage
+labelled name other = if bytes_eq name other then Some (body name) else None
+
+abbrev pub moved : Stage → Item → Option Stage
+moved s blank = Some s
+moved start syntax_line = Some syntax
+moved syntax text_line = Some text
+moved text (global name) = Some (named name)
+moved (named name) (label other) = labelled name other
+moved (body name) (code line) = Some (body name)
+moved s item = None
+
+abbrev pub grown : List Line → Item → List Line
+grown found (code line) = found ++ line ∷ []
+grown found item = found
+
+pub record State : Type 0 where
+  pub stage : Stage
+  pub found : List Line
+
+abbrev pub state : Stage → List Line → State
+state stage found = record { stage = stage; found = found }
+
+abbrev pub named_lines : List ℕ → List Line → NamedLines
+named_lines name found = record { name = name; lines = found }
+
+abbrev pub step_by : State → Item → Option State
+step_by s item = pick (moved s.stage item) (λ t. Some (state t (grown s.found item))) None
+
+abbrev pub step : State → List ℕ → Option State
+step s line = item_in line >>= step_by s
+
+abbrev pub body_name : Stage → Option (List ℕ)
+body_name start = None
+body_name syntax = None
+body_name text = None
+body_name (named name) = None
+body_name (body name) = Some name
+
+abbrev pub done : State → Option NamedLines
+done s = body_name s.stage >>= (λ name. Some (named_lines name s.found))
+
+-- the name and the lines of a text, or the number of its first faulty line
+unfoldable pub read_text : List ℕ → Result NamedLines ℕ
+read_text bytes = read_lines step done (state start []) (lines bytes) 1

@@ -1,0 +1,7 @@
+pub mod FirstToken
+pub mod Walk
+pub mod Digits
+pub mod FirstFault
+pub mod Spell
+pub mod Decimals
+pub mod LineText

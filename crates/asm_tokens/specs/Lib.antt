@@ -1,0 +1,5 @@
+pub mod Options
+pub mod Tokens
+pub mod Numbers
+pub mod Lines
+pub mod Whole
