@@ -1,7 +1,7 @@
 //! The program: one command over the files of the process, its line on standard error, its exit status.
 #![tactic(auto)]
 
-use io_ports::HostShelf;
+use io_ports::{HostShelf, Shelf};
 use search_top::Status;
 use std::io::ErrorKind;
 use std::process::ExitCode;
@@ -22,8 +22,16 @@ fn main(rt: HostRuntime) -> ExitCode {
         }
     };
     let mut shelf = HostShelf::new(&rt);
-    let status = search_top::search(rt.alloc(), words.as_slice(), &mut shelf);
+    let status = run(rt.alloc(), words.as_slice(), &mut shelf);
     end(&rt, &status)
+}
+
+/// Runs `search`, or another command.
+fn run<S: Shelf>(alloc: Global, words: &[String], shelf: &mut S) -> Status {
+    match words.first() {
+        Some(word) if word.as_str() == "search" => search_top::search(alloc, words, shelf),
+        _ => search_top::command(alloc, words, shelf),
+    }
 }
 
 /// The words of the command line without the program's own name.

@@ -4,16 +4,18 @@ use Rattle.std.proofs.lemmas.List.{length-replicate}
 use Rattle.std.specs.FinMap as map
 use Rattle.word_program.specs.declared.parameter.Role.TheVariants.{Output, InputArray}
 use Rattle.word_program.specs.Program.{Source, full}
-use Rattle.word_program.specs.Copy.{copy_of, IsAccepted}
+use Rattle.word_program.specs.Copy.{copy_of, IsCopy}
 use Rattle.word_program.specs.Values.{input_word, output_word}
-use Rattle.x86_meaning.specs.declared.instr.Reg.TheVariants.{Rsp, Rdi}
-use Rattle.x86_meaning.specs.declared.instr.Src.TheVariants as srcs
-use Rattle.x86_meaning.specs.declared.instr.Bin.TheVariants.{Add}
-use Rattle.x86_meaning.specs.declared.instr.Instr.TheVariants as instrs
-use Rattle.x86_meaning.specs.declared.listing.Line.{Line}
-use Rattle.x86_meaning.specs.Machine.{State, Cells}
+use Rattle.x86_instr.specs.declared.operand.Reg.TheVariants.{Rsp, Rdi}
+use Rattle.x86_instr.specs.declared.operand.Src.TheVariants as srcs
+use Rattle.x86_instr.specs.declared.instr.Bin.TheVariants.{Add}
+use Rattle.x86_instr.specs.declared.instr.Instr.TheVariants as instrs
+use Rattle.x86_instr.specs.declared.line.Line.{Line}
+use Rattle.x86_meaning.specs.declared.state.State.{State}
+use Rattle.x86_meaning.specs.Machine.{Cells}
 use Rattle.x86_meaning.specs.Runs.{Runs}
-use Rattle.x86_meaning.specs.Start.{Array, Frame, place_of, output_words, frame_of, IsStart}
+use Rattle.x86_instr.specs.Frame.{frame_of}
+use Rattle.x86_meaning.specs.Start.{Array, Frame, place_of, output_words, IsStart}
 use Rattle.x86_meaning.specs.Correct.{Keeps, Returns, IsCorrect}
 use Rattle.x86_meaning.proofs.Memory.{get_put_same}
 use Rattle.x86_meaning.proofs.Keeping.{keeps_start, keeps_put, put_same_area, written_there, input_kept}
@@ -133,7 +135,7 @@ copy_is_correct name output input words index within limit = record {
       start;
 }
 
--- so is that of every accepted program
-pub accepted_is_correct : (source : Source) → IsAccepted source → IsCorrect source (plain_lines source)
-accepted_is_correct source a =
+-- so is that of every program that is one
+pub is_copy_correct : (source : Source) → IsCopy source → IsCorrect source (plain_lines source)
+is_copy_correct source a =
     subst (λ p. IsCorrect p (plain_lines p)) (sym a.is) (copy_is_correct a.name a.output a.input a.words a.index a.within a.words_limit)

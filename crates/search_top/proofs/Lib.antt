@@ -1,3 +1,3 @@
 pub mod CopyIsCorrect
-pub mod ItemLemmas
 pub mod StartExists
+pub mod Telling

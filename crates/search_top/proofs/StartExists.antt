@@ -5,9 +5,10 @@ use Rattle.std.specs.Ordering.{nat_cmp}
 use Rattle.std.proofs.lemmas.Bool.Decides.{nat_tests}
 use Rattle.word_program.specs.Copy.{copy_of}
 use Rattle.word_program.specs.Program.{Source}
-use Rattle.x86_meaning.specs.declared.instr.Reg.{Reg}
-use Rattle.x86_meaning.specs.declared.instr.Reg.TheVariants.{Rax, Rcx, Rdx, Rbx, Rsp, Rbp, Rsi, Rdi, R8, R9, R10, R11, R12, R13, R14, R15}
-use Rattle.x86_meaning.specs.Machine.{State, IsWord, Cells, reg}
+use Rattle.x86_instr.specs.declared.operand.Reg.{Reg}
+use Rattle.x86_instr.specs.declared.operand.Reg.TheVariants.{Rax, Rcx, Rdx, Rbx, Rsp, Rbp, Rsi, Rdi, R8, R9, R10, R11, R12, R13, R14, R15}
+use Rattle.x86_meaning.specs.declared.state.State.{State}
+use Rattle.x86_meaning.specs.Machine.{IsWord, Cells, reg}
 use Rattle.word_program.specs.Values.{input_word, is_scalar}
 use Rattle.x86_meaning.specs.Start.{array_words, input_array_words, words_if, param_reg, Area, Array, Frame, Return, area_words, is_apart, AreApart, place_of, IsStart}
 use Rattle.x86_meaning.proofs.Memory.{get_put}

@@ -1,7 +1,10 @@
 pub mod Words
-pub mod Reading
+pub mod Inputs
+pub mod Outputs
 pub mod Plain
 pub mod Cost
 pub mod Assembly
 pub mod Status
 pub mod Search
+pub mod Loading
+pub mod Command

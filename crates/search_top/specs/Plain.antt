@@ -5,23 +5,23 @@ use Rattle.word_program.specs.declared.parameter.Param.{Param}
 use Rattle.word_program.specs.declared.parameter.Role.{Role}
 use Rattle.word_program.specs.declared.parameter.Role.TheVariants.{Output, InputArray, InputScalar}
 use Rattle.word_program.specs.declared.operation.Op.{Op}
-use Rattle.word_program.specs.declared.operation.Kind.{Kind}
-use Rattle.word_program.specs.declared.operation.Kind.TheVariants as kinds
+use Rattle.word_operations.specs.declared.kind.Kind.{Kind}
+use Rattle.word_operations.specs.declared.kind.Kind.TheVariants as kinds
 use Rattle.word_program.specs.declared.operation.Operand.{Operand}
 use Rattle.word_program.specs.declared.operation.Operand.TheVariants as operands
 use Rattle.word_program.specs.declared.operation.Target.{Target}
 use Rattle.word_program.specs.declared.operation.Target.TheVariants as targets
 use Rattle.word_program.specs.Program.{Source}
-use Rattle.x86_meaning.specs.declared.instr.Reg.{Reg}
-use Rattle.x86_meaning.specs.declared.instr.Reg.TheVariants.{Rax, Rcx, Rsp, R11}
-use Rattle.x86_meaning.specs.declared.instr.Mem.{Mem}
-use Rattle.x86_meaning.specs.declared.instr.Rm.TheVariants as rms
-use Rattle.x86_meaning.specs.declared.instr.Src.TheVariants as srcs
-use Rattle.x86_meaning.specs.declared.instr.Bin.TheVariants.{Add, Sub}
-use Rattle.x86_meaning.specs.declared.instr.Instr.{Instr}
-use Rattle.x86_meaning.specs.declared.instr.Instr.TheVariants as instrs
-use Rattle.x86_meaning.specs.declared.listing.Line.{Line}
-use Rattle.x86_meaning.specs.declared.listing.Listing.{Listing}
+use Rattle.x86_instr.specs.declared.operand.Reg.{Reg}
+use Rattle.x86_instr.specs.declared.operand.Reg.TheVariants.{Rax, Rcx, Rsp, R11}
+use Rattle.x86_instr.specs.declared.operand.Mem.{Mem}
+use Rattle.x86_instr.specs.declared.operand.Rm.TheVariants as rms
+use Rattle.x86_instr.specs.declared.operand.Src.TheVariants as srcs
+use Rattle.x86_instr.specs.declared.instr.Bin.TheVariants.{Add, Sub}
+use Rattle.x86_instr.specs.declared.instr.Instr.{Instr}
+use Rattle.x86_instr.specs.declared.instr.Instr.TheVariants as instrs
+use Rattle.x86_instr.specs.declared.line.Line.{Line}
+use Rattle.x86_instr.specs.declared.listing.Listing.{Listing}
 use Rattle.x86_meaning.specs.Start.{param_reg}
 
 -- ---- lines and slots
@@ -89,6 +89,8 @@ target_at op place = slice_index_or op.targets place targets.Unused
 abbrev pub block_of : Kind → List Param → ℕ → ℕ → Op → List Line
 block_of kinds.Copy params op_number value op =
     load params Rcx (arg_at op 0) ++ owned op_number (instrs.Mov Rax (rms.Reg Rcx)) ∷ store params value (target_at op 0) Rax
+-- no listing of another kind is made yet
+block_of kind params op_number value op = []
 
 -- the lines of operations of which the first has this number and this first value
 abbrev pub blocks_from : List Param → ℕ → ℕ → List Op → List Line

@@ -1,14 +1,19 @@
 -- What `search` promises, by cases of its status. A shelf may tell what a file has, or what was said, or
 -- not: what it does not tell is None, and no promise speaks of it.
-use Rattle.std.specs.Prelude.{◌≡◌, ℕ, ◌+◌, ◌-◌, ◌^◌, ◌≤◌, ◌⊎◌, min, List, length, codes, decimal, ◌++◌, Option, IfSome}
+use Rattle.std.specs.Prelude.{◌≡◌, ℕ, ◌+◌, ◌-◌, ◌^◌, ◌≤◌, ◌⊎◌, min, List, length, codes, decimal, ◌++◌, Option, None, IfSome, IsSome}
 use Rattle.io_ports.specs.Shelf.{Stays, Grows, GrowsByPart}
-use Rattle.word_program.specs.declared.fault.Place.{Place}
+use Rattle.word_text.specs.declared.fault.Place.{Place}
+use Rattle.word_text.specs.declared.fault.Section.TheVariants.{Top}
 use Rattle.word_program.specs.Program.{Source}
+use Rattle.word_program.specs.Copy.{copy_form}
+use Rattle.word_program.specs.Walk.{place_in}
+use Rattle.fiat_json.specs.declared.fault.ReadFault.{ReadFault}
+use Rattle.fiat_json.specs.declared.fault.ReadFault.TheVariants as faults
+use Rattle.fiat_json.specs.Reading.{IsProgram, Breaks, IsNotJson}
 use Rattle.x86_meaning.specs.Correct.{IsCorrect}
 use Rattle.search_top.specs.declared.status.Status.{Status}
 use Rattle.search_top.specs.declared.status.Status.TheVariants as statuses
 use Rattle.search_top.specs.Words.{Files, files_of}
-use Rattle.search_top.specs.Reading.{IsProgram}
 use Rattle.search_top.specs.Plain.{plain_lines, plain_listing}
 use Rattle.search_top.specs.Cost.{cost_of}
 use Rattle.search_top.specs.Assembly.{text_of}
@@ -25,9 +30,26 @@ raised_by k n = min (n + k) (2 ^ 64 - 1)
 abbrev pub opening_text : Source → List ℕ
 opening_text program = codes "opening " ++ (decimal (cost_of (plain_lines program)) ++ codes "\n")
 
+-- the bytes are a program that `search` takes: a copy of one word
+pub record IsSearched (bytes : List ℕ) (program : Source) : Type 0 where
+  pub read : IsProgram bytes program
+  pub copies : IsSome (copy_form program)
+
 -- the file that the shelf told before, where it told it, has this program
 abbrev pub IsRead : Option (List ℕ) → Source → Type 0
-IsRead source program = IfSome source (λ bytes. (length bytes ≤ limit) × IsProgram bytes program)
+IsRead source program = IfSome source (λ bytes. (length bytes ≤ limit) × IsSearched bytes program)
+
+-- the bytes are a program that `search` does not take, which is code 7 at the program as a whole
+pub record IsNotSearched (bytes : List ℕ) (code : ℕ) (place : Place) : Type 0 where
+  pub program : Source
+  pub read : IsProgram bytes program
+  pub other : copy_form program ≡ None
+  pub code_is : code ≡ 7
+  pub place_is : place ≡ place_in Top 0 0
+
+-- the bytes are JSON with this fault first, or a program that `search` does not take
+abbrev pub HasFault : List ℕ → ℕ → Place → Type 0
+HasFault bytes code place = Breaks bytes code place ⊎ IsNotSearched bytes code place
 
 -- The program that was read has a plain listing that is correct, and ASM has its text, as far as the shelf
 -- tells it after.
@@ -82,13 +104,21 @@ CallsAfter (statuses.ReadFault name) before now = now ≡ raised_by 1 before
 CallsAfter (statuses.TooLong name most) before now = now ≡ raised_by 1 before
 CallsAfter statuses.NotJson before now = now ≡ raised_by 1 before
 CallsAfter (statuses.Program code place) before now = now ≡ raised_by 1 before
+CallsAfter (statuses.Inputs given wanted) before now = ⊥
+CallsAfter (statuses.OutOfBounds word) before now = ⊥
 CallsAfter (statuses.WriteFault name) before now = (now ≡ raised_by 2 before) ⊎ (now ≡ raised_by 3 before)
 CallsAfter statuses.OutOfMemory before now = (now ≡ before) ⊎ (now ≡ raised_by 1 before)
+
+-- why the bytes have no opening
+abbrev pub FailsToOpen : List ℕ → ReadFault → Type 0
+FailsToOpen bytes faults.NotJson = IsNotJson bytes
+FailsToOpen bytes (faults.Program code place) = HasFault bytes code place
+FailsToOpen bytes faults.Memory = Unit {0}
 
 -- the text and the line that the bytes of a program lead to
 pub record IsOpening (bytes text line : List ℕ) : Type 0 where
   pub program : Source
-  pub read : IsProgram bytes program
+  pub read : IsSearched bytes program
   pub spells : text ≡ text_of (plain_listing program)
   pub tells : line ≡ opening_text program
   pub correct : IsCorrect program (plain_lines program)

@@ -1,8 +1,8 @@
 -- What a status prints on standard error, and the exit status that it ends with.
 use Rattle.std.specs.Prelude.{ℕ, List, [], ◌∷◌, ◌++◌, codes, decimal, nat_lt, if◌then◌else◌}
-use Rattle.word_program.specs.declared.fault.Section.{Section}
-use Rattle.word_program.specs.declared.fault.Section.TheVariants as sections
-use Rattle.word_program.specs.declared.fault.Place.{Place}
+use Rattle.word_text.specs.declared.fault.Section.{Section}
+use Rattle.word_text.specs.declared.fault.Section.TheVariants as sections
+use Rattle.word_text.specs.declared.fault.Place.{Place}
 use Rattle.search_top.specs.declared.status.Status.{Status}
 use Rattle.search_top.specs.declared.status.Status.TheVariants as statuses
 
@@ -14,6 +14,8 @@ exit_of (statuses.TooLong name limit) = 4
 exit_of statuses.NotJson = 5
 exit_of (statuses.Program code place) = 6
 exit_of (statuses.WriteFault name) = 7
+exit_of (statuses.Inputs given wanted) = 12
+exit_of (statuses.OutOfBounds word) = 13
 exit_of statuses.OutOfMemory = 17
 
 abbrev pub section_text : Section → List ℕ
@@ -35,6 +37,12 @@ too_long_text name limit = name ++ (codes " has more than " ++ (decimal limit ++
 unfoldable pub program_fault_text : ℕ → Place → List ℕ
 program_fault_text code place = codes "program fault P" ++ (code_text code ++ (codes " at " ++ place_text place))
 
+unfoldable pub inputs_text : ℕ → ℕ → List ℕ
+inputs_text given wanted = decimal given ++ (codes " inputs, " ++ (decimal wanted ++ codes " wanted"))
+
+unfoldable pub out_of_bounds_text : ℕ → List ℕ
+out_of_bounds_text word = codes "input " ++ (decimal word ++ codes " out of bounds")
+
 -- the line without its line feed; nothing for Ok
 unfoldable pub line_of : Status → List ℕ
 line_of statuses.Ok = []
@@ -44,4 +52,6 @@ line_of (statuses.TooLong name limit) = too_long_text name limit
 line_of statuses.NotJson = codes "not JSON"
 line_of (statuses.Program code place) = program_fault_text code place
 line_of (statuses.WriteFault name) = codes "cannot write " ++ name
+line_of (statuses.Inputs given wanted) = inputs_text given wanted
+line_of (statuses.OutOfBounds word) = out_of_bounds_text word
 line_of statuses.OutOfMemory = codes "out of memory"

@@ -1,7 +1,7 @@
 ghost use Rattle.std.specs.Prelude.{◌≡◌, ◌≤◌, length};
 ghost use Rattle.search_top.specs.Cost.{rm_cost, src_cost, instr_cost, cost_of};
 
-use x86_meaning::{Instr, Line, Rm, Src};
+use x86_instr::{Instr, Line, Rm, Src};
 
 /// What reading memory adds to a line's cost.
 const READ: u64 = 4;
@@ -26,11 +26,27 @@ fn instr_cost(instr: Instr) -> u64
     ensures limit { result ≤ 16 }
 {
     match instr {
-        Instr::Mov { src, .. } => 1 + rm_cost(src),
-        Instr::MovImm { .. } => 1,
         Instr::Store { .. } => 1 + WRITE,
         Instr::Bin { src, .. } => 1 + src_cost(src),
-        Instr::Ret => 1,
+        Instr::Mov { src, .. }
+        | Instr::Adcx { src, .. }
+        | Instr::Adox { src, .. }
+        | Instr::Shlx { src, .. }
+        | Instr::Shrx { src, .. }
+        | Instr::Cmov { src, .. } => 1 + rm_cost(src),
+        Instr::Mulx { src, .. } | Instr::Mul { src } => 4 + rm_cost(src),
+        Instr::Imul { src, .. } => 3 + rm_cost(src),
+        Instr::Shrd { .. } => 3,
+        Instr::MovImm { .. }
+        | Instr::Lea { .. }
+        | Instr::Test { .. }
+        | Instr::Un { .. }
+        | Instr::Shl { .. }
+        | Instr::Shr { .. }
+        | Instr::Set { .. }
+        | Instr::Movzx { .. }
+        | Instr::Clc
+        | Instr::Ret => 1,
     }
 }
 

@@ -5,15 +5,20 @@
 #![tactic(auto)]
 
 mod assembly;
+mod commands;
 mod cost;
+mod eval_command;
+mod inputs;
 mod laws;
+mod loading;
 mod opening;
+mod outputs;
 mod plain;
-mod reading;
 mod search_command;
 mod status;
 mod words;
 
+pub use commands::command;
 pub use laws::{copy_can_start, plain_listing_is_correct};
 pub use search_command::search;
 pub use status::{Status, exit_of, line_of};

@@ -1,14 +1,16 @@
 ghost use Rattle.std.specs.Prelude.{◌≡◌, ◌++◌, IfOk, IfErr, codes, decimal, string_bytes};
-ghost use Rattle.search_top.specs.Reading.{Causes};
+ghost use Rattle.word_text.specs.declared.fault.Section.TheVariants.{Top};
+ghost use Rattle.word_program.specs.Copy.{IsCopy};
+ghost use Rattle.word_program.specs.Walk.{place_in};
 ghost use Rattle.x86_meaning.specs.Correct.{IsCorrect};
 ghost use Rattle.search_top.specs.Plain.{plain_lines, plain_listing};
 ghost use Rattle.search_top.specs.Assembly.{text_of};
-ghost use Rattle.search_top.specs.Search.{IsOpening, opening_text};
+ghost use Rattle.search_top.specs.Search.{IsOpening, FailsToOpen, opening_text};
 
-use crate::reading::ReadFault;
-use crate::{assembly, cost, plain, reading};
+use crate::{assembly, cost, plain};
+use fiat_json::ReadFault;
 use std::alloc::{AllocError, Global};
-use word_program::Program;
+use word_program::{Place, Program, Section, copy_form};
 
 /// The opening of a search: a program's plain listing.
 #[derive(Drop)]
@@ -22,22 +24,43 @@ pub struct Opening {
 /// The opening of the program that the bytes are in JSON.
 pub fn opening_of(alloc: Global, bytes: &[u8]) -> Result<Opening, ReadFault>
     ensures ok { IfOk result (λ o. IsOpening bytes.now (string_bytes o.text) (string_bytes o.line)) }
-    ensures err { IfErr result (Causes bytes.now) }
+    ensures err { IfErr result (FailsToOpen bytes.now) }
 {
-    let program = reading::read_program(alloc, bytes)?;
+    let program = match fiat_json::read_program(alloc, bytes) {
+        Ok(program) => program,
+        Err(fault) => return Err(fault),
+    };
+    let Some(_) = copy_form(&program) else {
+        return Err(not_searched());
+    };
     match plain_opening(alloc, &program) {
         Ok(opening) => Ok(opening),
         Err(_) => Err(ReadFault::Memory),
     }
 }
 
+/// The fault of a program that `search` does not take yet.
+fn not_searched() -> ReadFault
+    ensures { result ≡ ReadFault.Program 7 (place_in Top 0 0) }
+{
+    ReadFault::Program {
+        code: 7,
+        place: Place {
+            section: Section::Top,
+            item: 0,
+            inner: 0,
+        },
+    }
+}
+
 fn plain_opening(alloc: Global, program: &Program) -> Result<Opening, AllocError>
+    requires { IsCopy program.now }
     ensures text { IfOk result (λ o. string_bytes o.text ≡ text_of (plain_listing program.now)) }
     ensures line { IfOk result (λ o. string_bytes o.line ≡ opening_text program.now) }
     ensures correct { IfOk result (λ o. IsCorrect program.now (plain_lines program.now)) }
 {
     let listing = plain::plain_listing(alloc, program)?;
-    let cost = cost::cost_of(listing.lines.items());
+    let cost = cost::cost_of(listing.lines());
     let text = assembly::text_of(alloc, &listing)?;
     let line = opening_line(alloc, cost)?;
     Ok(Opening { text, line })

@@ -1,23 +1,28 @@
 ghost use Rattle.std.specs.Prelude.{◌≡◌, ℕ, ◌+◌, ◌*◌, ◌^◌, ◌<◌, ◌≤◌, [], ◌∷◌, ◌++◌, length, pos, IfOk, OnOk};
+ghost use Rattle.word_program.specs.Copy.{IsCopy};
 ghost use Rattle.x86_meaning.specs.Correct.{IsCorrect};
 ghost use Rattle.search_top.specs.Plain as spec;
 
 use std::alloc::{AllocError, Global};
-use word_program::{Kind, Op, Operand, Param, Program, Role, Target, Text};
-use x86_meaning::{Bin, Instr, Line, Lines, Listing, Mem, Reg, Rm, Src};
+use word_program::{Kind, Op, Operand, Param, Program, Role, Target};
+use x86_instr::{Bin, Instr, Line, Lines, Listing, Mem, Owner, Reg, Rm, Src, Text};
 
 /// The registers that pass the parameters, in order.
 const PARAM_REGS: [Reg; 6] = [Reg::Rdi, Reg::Rsi, Reg::Rdx, Reg::Rcx, Reg::R8, Reg::R9];
 
-/// The plain listing of a program, which is correct. The one error is want of memory.
+/// The plain listing of a copy, which is correct. The one error is want of memory.
 pub fn plain_listing(alloc: Global, program: &Program) -> Result<Listing, AllocError>
+    requires { IsCopy program.now }
     ensures listing { IfOk result (λ l. l ≡ spec.plain_listing program.now) }
     ensures correct { IfOk result (λ l. IsCorrect program.now l.lines) }
     ensures short { IfOk result (λ l. length l.lines ≤ 65536) }
 {
     let lines = plain_lines(alloc, program.params(), program.ops())?;
     let name = Text::from_str(alloc, program.name().as_str())?;
-    Ok(Listing { name, lines })
+    match Listing::new(alloc, name, lines) {
+        Ok(listing) => Ok(listing),
+        Err(_) => unreachable!(),
+    }
 }
 
 fn plain_lines(alloc: Global, params: &[Param], ops: &[Op]) -> Result<Lines, AllocError>
@@ -93,6 +98,7 @@ fn push_block(
     op: &Op,
 ) -> Result<(), AllocError>
     requires params { length params.now ≤ 6 }
+    requires number { number < 2048 }
     requires value { value ≤ 4096 }
     ensures { OnOk result (lines.new ≡ lines.old ++ spec.block_of op.now.kind params.now number value op.now) }
 {
@@ -108,6 +114,7 @@ fn push_block(
             ))?;
             push_store(lines, params, value, target_at(op, 0), Reg::Rax)
         }
+        _ => Ok(()),
     }
 }
 
@@ -234,10 +241,11 @@ fn unowned(instr: Instr) -> Line
 }
 
 fn owned(op: u16, instr: Instr) -> Line
+    requires { op < 2048 }
     ensures { result ≡ spec.owned op instr }
 {
     Line {
         instr,
-        owner: Some(op),
+        owner: Owner::new(op),
     }
 }

@@ -1,13 +1,13 @@
 ghost use Rattle.std.specs.Prelude.{◌≡◌, ◌≢◌, ◌↔◌, ◌⊎◌, ℕ, List, IfSome, None, IfOk, ◌<◌, ◌≤◌, length, map, string_bytes, codes};
 ghost use Rattle.io_ports.specs.Shelf.{Rose, Stays};
 ghost use Rattle.search_top.specs.Words.{Files, texts_of, files_of};
-ghost use Rattle.search_top.specs.Reading.{IsNotJson, IsNoProgram, top};
-ghost use Rattle.search_top.specs.Search.{limit, raised_by, IfReadFault, IfTooLong, OnNotJson, IfFiles, IfProgram, IfWriteFault, OnSuccess, OnRefusal, CallsAfter, Succeeds, FailsAtAsm, FailsAtOutput};
+ghost use Rattle.fiat_json.specs.Reading.{IsNotJson};
+ghost use Rattle.search_top.specs.Search.{limit, HasFault, raised_by, IfReadFault, IfTooLong, OnNotJson, IfFiles, IfProgram, IfWriteFault, OnSuccess, OnRefusal, CallsAfter, Succeeds, FailsAtAsm, FailsAtOutput};
 
-use crate::reading::ReadFault;
 use crate::status::Status;
 use crate::words::FileNames;
 use crate::{opening, words};
+use fiat_json::ReadFault;
 use io_ports::{Fault, Shelf};
 use std::alloc::{AllocError, Global};
 use word_program::Text;
@@ -40,7 +40,7 @@ fn search_files<S: Shelf>(alloc: Global, files: FileNames<'_>, shelf: &mut S) ->
     ensures read_fault { IfReadFault result (λ name. (name ≡ files.entry.program.now) × Rose (S.faults shelf.old) (S.faults shelf.new)) }
     ensures too_long { IfTooLong result (λ name most. (name ≡ files.entry.program.now) × (most ≡ limit) × IfSome (S.held shelf.old files.entry.program.now) (λ bytes. limit < length bytes)) }
     ensures not_json { OnNotJson result (IfSome (S.held shelf.old files.entry.program.now) (λ bytes. (length bytes ≤ limit) × IsNotJson bytes)) }
-    ensures program_fault { IfProgram result (λ code place. (code ≡ 7) × (place ≡ top) × IfSome (S.held shelf.old files.entry.program.now) (λ bytes. (length bytes ≤ limit) × IsNoProgram bytes)) }
+    ensures program_fault { IfProgram result (λ code place. IfSome (S.held shelf.old files.entry.program.now) (λ bytes. (length bytes ≤ limit) × HasFault bytes code place)) }
     ensures refusal_files { OnRefusal result ((n : List ℕ) → S.held shelf.new n ≡ S.held shelf.old n) }
     ensures refusal_output { OnRefusal result (S.said shelf.new ≡ S.said shelf.old) }
     ensures calls { CallsAfter result (S.calls shelf.old) (S.calls shelf.new) }
@@ -99,10 +99,9 @@ pub fn search<S: Shelf>(alloc: Global, words: &[String], shelf: &mut S) -> Statu
     ensures not_json { OnNotJson result (IfFiles (map string_bytes words.now) (λ files.
         IfSome (S.held shelf.old files.program) (λ bytes. (length bytes ≤ limit) × IsNotJson bytes))) }
 
-    // PROGRAM is JSON, but no program.
+    // PROGRAM is JSON that breaks this rule first, or a program that is not searched yet: code 7 at top.
     ensures program_fault { IfProgram result (λ code place. IfFiles (map string_bytes words.now) (λ files.
-        (code ≡ 7) × (place ≡ top)
-        × IfSome (S.held shelf.old files.program) (λ bytes. (length bytes ≤ limit) × IsNoProgram bytes))) }
+        IfSome (S.held shelf.old files.program) (λ bytes. (length bytes ≤ limit) × HasFault bytes code place))) }
 
     // PROGRAM is a program, and ASM or standard output could not be written; what was written before stands.
     ensures write_fault { IfWriteFault result (λ name. Rose (S.faults shelf.old) (S.faults shelf.new)) }

@@ -1,5 +1,5 @@
 ghost use Rattle.std.specs.Prelude.{◌≡◌, ◌++◌, IfOk, OnOk, string_bytes};
-ghost use Rattle.search_top.specs.Status.{exit_of, section_text, code_text, place_text, too_long_text, program_fault_text, line_of};
+ghost use Rattle.search_top.specs.Status.{exit_of, section_text, code_text, place_text, too_long_text, program_fault_text, inputs_text, out_of_bounds_text, line_of};
 
 use itoa::Buffer;
 use std::alloc::{AllocError, Global};
@@ -22,6 +22,10 @@ pub enum Status {
     Program(u8, Place),
     /// The file of this name, or standard output where the name is `-`, could not be written.
     WriteFault(Text),
+    /// There are this many inputs, and the program wants that many.
+    Inputs { given: u64, wanted: u64 },
+    /// This input word, counted from 0, is the first one outside its bounds.
+    OutOfBounds(u32),
     /// There is no memory left.
     OutOfMemory,
 }
@@ -38,6 +42,8 @@ pub fn exit_of(status: &Status) -> u8
         Status::NotJson => 5,
         Status::Program(..) => 6,
         Status::WriteFault(_) => 7,
+        Status::Inputs { .. } => 12,
+        Status::OutOfBounds(_) => 13,
         Status::OutOfMemory => 17,
     }
 }
@@ -64,6 +70,8 @@ fn push_line(line: &mut String, status: &Status) -> Result<(), AllocError>
         Status::NotJson => line.push_str("not JSON"),
         Status::Program(code, place) => push_program_fault(line, *code, *place),
         Status::WriteFault(name) => push_named(line, "cannot write ", name),
+        Status::Inputs { given, wanted } => push_inputs(line, *given, *wanted),
+        Status::OutOfBounds(word) => push_out_of_bounds(line, *word),
         Status::OutOfMemory => line.push_str("out of memory"),
     }
 }
@@ -84,6 +92,25 @@ fn push_too_long(line: &mut String, name: &str, limit: u64) -> Result<(), AllocE
     line.push_str(Buffer::new().format(limit))?;
     line.push_str(" bytes")?;
     Ok(())
+}
+
+#[tactic(auto, unfolding(crate::specs::Status::inputs_text))]
+fn push_inputs(line: &mut String, given: u64, wanted: u64) -> Result<(), AllocError>
+    ensures { OnOk result (string_bytes line.new ≡ string_bytes line.old ++ inputs_text given wanted) }
+{
+    line.push_str(Buffer::new().format(given))?;
+    line.push_str(" inputs, ")?;
+    line.push_str(Buffer::new().format(wanted))?;
+    line.push_str(" wanted")
+}
+
+#[tactic(auto, unfolding(crate::specs::Status::out_of_bounds_text))]
+fn push_out_of_bounds(line: &mut String, word: u32) -> Result<(), AllocError>
+    ensures { OnOk result (string_bytes line.new ≡ string_bytes line.old ++ out_of_bounds_text word) }
+{
+    line.push_str("input ")?;
+    line.push_str(Buffer::new().format(word))?;
+    line.push_str(" out of bounds")
 }
 
 #[tactic(auto, unfolding(crate::specs::Status::program_fault_text))]

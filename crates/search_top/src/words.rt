@@ -1,5 +1,5 @@
 ghost use Rattle.std.specs.Prelude.{◌≡◌, option_map, map, string_bytes};
-ghost use Rattle.search_top.specs.Words.{Files, is_option, different_files, files_of};
+ghost use Rattle.search_top.specs.Words.{command_view, eval_rest, eval_words, command_texts, is_option, different_files, files_of};
 
 /// The files that a command line of `search` names, which are different texts.
 #[derive(Clone, Copy)]
@@ -36,4 +36,57 @@ fn is_option(word: &str) -> bool
     ensures { result ≡ is_option word.now }
 {
     word.as_bytes().first() == Some(&b'-')
+}
+
+/// The words of a command that waits for nobody.
+#[derive(Clone, Copy)]
+pub enum CommandWords<'a> {
+    /// `eval PROGRAM`, and the words after `--in` where they are there.
+    Eval {
+        program: &'a str,
+        list: Option<&'a str>,
+    },
+}
+
+/// The words of a command, and none where they have another form.
+pub fn command_words(words: &[String]) -> Option<CommandWords<'_>>
+    ensures { option_map command_view result ≡ command_texts (map string_bytes words.now) }
+{
+    let (command, rest) = words.split_first()?;
+    if command.as_str() == "eval" {
+        eval_words(rest)
+    } else {
+        None
+    }
+}
+
+fn eval_words(words: &[String]) -> Option<CommandWords<'_>>
+    ensures { option_map command_view result ≡ eval_words (map string_bytes words.now) }
+{
+    let (program, rest) = words.split_first()?;
+    if is_option(program.as_str()) {
+        return None;
+    }
+    eval_rest(program.as_str(), rest)
+}
+
+fn eval_rest<'a>(program: &'a str, rest: &'a [String]) -> Option<CommandWords<'a>>
+    ensures { option_map command_view result ≡ eval_rest program.entry.now (map string_bytes rest.entry.now) }
+{
+    if rest.is_empty() {
+        return Some(CommandWords::Eval {
+            program,
+            list: None,
+        });
+    }
+    let [option, list] = rest else {
+        return None;
+    };
+    if option.as_str() != "--in" {
+        return None;
+    }
+    Some(CommandWords::Eval {
+        program,
+        list: Some(list.as_str()),
+    })
 }

@@ -1,7 +1,7 @@
 //! How a command may end: its status, its exit status and its line, written by hand.
 use search_top::{Status, exit_of, line_of};
 use std::alloc::{AllocError, Global};
-use word_program::{Place, Section};
+use word_program::Place;
 
 /// A status with the names in it as plain text.
 #[derive(Clone, Copy)]
@@ -13,6 +13,8 @@ pub enum Wanted {
     NotJson,
     Program(u8, Place),
     WriteFault(&'static str),
+    Inputs { given: u64, wanted: u64 },
+    OutOfBounds(u32),
     OutOfMemory,
 }
 
@@ -23,12 +25,6 @@ pub struct End {
     pub exit: u8,
     pub line: &'static str,
 }
-
-const TOP: Place = Place {
-    section: Section::Top,
-    item: 0,
-    inner: 0,
-};
 
 pub const DONE: End = End {
     status: Wanted::Ok,
@@ -66,12 +62,6 @@ pub const NOT_JSON: End = End {
     line: "not JSON",
 };
 
-pub const NO_PROGRAM: End = End {
-    status: Wanted::Program(7, TOP),
-    exit: 6,
-    line: "program fault P07 at top 0 0",
-};
-
 pub const UNWRITTEN: End = End {
     status: Wanted::WriteFault("copy1.s"),
     exit: 7,
@@ -99,6 +89,11 @@ fn is(status: &Status, wanted: Wanted) -> bool {
         Status::NotJson => matches!(wanted, Wanted::NotJson),
         Status::Program(code, place) => is_program(*code, *place, wanted),
         Status::WriteFault(name) => is_write_fault(name.as_str(), wanted),
+        Status::Inputs {
+            given,
+            wanted: most,
+        } => is_inputs(*given, *most, wanted),
+        Status::OutOfBounds(word) => is_out_of_bounds(*word, wanted),
         Status::OutOfMemory => matches!(wanted, Wanted::OutOfMemory),
     }
 }
@@ -127,6 +122,23 @@ fn is_program(code: u8, place: Place, wanted: Wanted) -> bool {
 fn is_write_fault(name: &str, wanted: Wanted) -> bool {
     match wanted {
         Wanted::WriteFault(other) => name == other,
+        _ => false,
+    }
+}
+
+fn is_inputs(given: u64, most: u64, wanted: Wanted) -> bool {
+    match wanted {
+        Wanted::Inputs {
+            given: other,
+            wanted,
+        } => given == other && most == wanted,
+        _ => false,
+    }
+}
+
+fn is_out_of_bounds(word: u32, wanted: Wanted) -> bool {
+    match wanted {
+        Wanted::OutOfBounds(other) => word == other,
         _ => false,
     }
 }

@@ -1,7 +1,7 @@
 //! `search`, called with words, over a shelf that has a program, an old assembly and one more file.
 use crate::ends::{
-    DONE, End, MISSING, NO_MEMORY, NO_PROGRAM, NOT_JSON, TOO_LONG, UNREAD, UNSAID, UNWRITTEN,
-    USAGE, Wanted, is_end,
+    DONE, End, MISSING, NO_MEMORY, NOT_JSON, TOO_LONG, UNREAD, UNSAID, UNWRITTEN, USAGE, Wanted,
+    is_end,
 };
 use io_ports::{Fault, MemoryShelf, Shelf};
 use search_top::Status;
@@ -148,6 +148,7 @@ fn reads_the_same_program_in_another_text(rt: HostRuntime) -> Result<(), Fail> {
             r#"{"key":[1,{"operation":null}],"operation":"c"#,
         ),
         (r#""name":"arg1""#, r#""name":"arg1","bound":["0x0"]"#),
+        (r#""name":"arg1""#, r#""name":"arg1","lbound":"0""#),
         ("arg1", "out2"),
         (r#""copy1""#, r#"7,"operation":"copy1""#),
         (
@@ -222,57 +223,222 @@ fn nested(alloc: Global, depth: usize) -> Result<String, AllocError> {
     format!(in alloc; "{open}{close}")
 }
 
-// Each row has a piece of the program, and what stands in its place.
+// The end at a fault of a program.
+fn fault(code: u8, section: Section, item: u32, inner: u32, line: &'static str) -> End {
+    let place = Place {
+        section,
+        item,
+        inner,
+    };
+    End {
+        status: Wanted::Program(code, place),
+        exit: 6,
+        line,
+    }
+}
+
+// Each row has a piece of the program, what stands in its place, and the end. Code 7 at the top is a program
+// that is read and not searched.
 #[test]
 fn refuses_json_of_another_form(rt: HostRuntime) -> Result<(), Fail> {
-    for (piece, by) in [
-        (COPY1, "null"),
-        (COPY1, "{}"),
-        (COPY1, "[]"),
-        (COPY1, "\"copy1\""),
-        (r#""operation":"copy1","#, ""),
-        (r#""operation":"copy1""#, r#""Operation":"copy1""#),
-        (r#""copy1""#, r#""copy1","operation":7"#),
-        (r#""copy1""#, r#""""#),
-        (r#""copy1""#, r#""_""#),
-        (r#""copy1""#, r#""1copy""#),
+    for (piece, by, end) in [
+        (
+            COPY1,
+            "null",
+            fault(1, Section::Top, 0, 0, "program fault P01 at top 0 0"),
+        ),
+        (
+            COPY1,
+            "{}",
+            fault(1, Section::Top, 0, 0, "program fault P01 at top 0 0"),
+        ),
+        (
+            COPY1,
+            "[]",
+            fault(1, Section::Top, 0, 0, "program fault P01 at top 0 0"),
+        ),
+        (
+            r#""operation":"copy1","#,
+            "",
+            fault(1, Section::Top, 0, 0, "program fault P01 at top 0 0"),
+        ),
+        (
+            r#""operation":"copy1""#,
+            r#""Operation":"copy1""#,
+            fault(1, Section::Top, 0, 0, "program fault P01 at top 0 0"),
+        ),
+        (
+            r#""copy1""#,
+            r#""copy1","operation":7"#,
+            fault(1, Section::Top, 0, 0, "program fault P01 at top 0 0"),
+        ),
+        (
+            r#""copy1""#,
+            r#""""#,
+            fault(2, Section::Top, 0, 0, "program fault P02 at top 0 0"),
+        ),
+        (
+            r#""copy1""#,
+            r#""_""#,
+            fault(2, Section::Top, 0, 0, "program fault P02 at top 0 0"),
+        ),
+        (
+            r#""copy1""#,
+            r#""1copy""#,
+            fault(2, Section::Top, 0, 0, "program fault P02 at top 0 0"),
+        ),
         (
             r#""copy1""#,
             r#""f23456789_123456789_123456789_123456789_123456789_123456789_12345""#,
+            fault(2, Section::Top, 0, 0, "program fault P02 at top 0 0"),
         ),
-        (r#""copy1""#, r#""copy-1""#),
-        (r#""copy1""#, r#""copy\u00e9""#),
-        (r#"u64[1]"}],"arg"#, r#"u64[2]"}],"arg"#),
-        (r#"u64[1]"}],"arg"#, r#"u64[1]","ubound":["0x1"]}],"arg"#),
-        (r#"u64[1]"}],"body"#, r#"u64[1]","lbound":["0x0"]}],"body"#),
-        (r#"u64[1]"}],"body"#, r#"u64[1]","lbound":null}],"body"#),
-        (r#"u64[1]"}],"body"#, r#"u64[0]"}],"body"#),
-        (r#"u64[1]"}],"body"#, r#"u64[33]"}],"body"#),
-        (r#"u64[1]"}],"body"#, r#"u64[01]"}],"body"#),
-        (r#"u64[1]"}],"body"#, r#"u64"}],"body"#),
-        (r#"{"name":"arg1","datatype":"u64[1]"}"#, ""),
-        ("arg1", "out1"),
-        (r#""arg1[0]""#, r#""arg1[1]""#),
-        (r#""arg1[0]""#, r#""arg2[0]""#),
-        (r#""arg1[0]""#, r#""arg1""#),
-        (r#""arg1[0]""#, r#""arg1[0]","arg1[0]""#),
-        (r#""out1[0]""#, r#""out1[1]""#),
-        (r#""out1[0]""#, r#""_""#),
-        (r#"["out1[0]"]"#, r#""out1[0]""#),
-        (r#""=""#, r#""+""#),
+        (
+            r#""copy1""#,
+            r#""copy\u00e9""#,
+            fault(2, Section::Top, 0, 0, "program fault P02 at top 0 0"),
+        ),
+        (
+            r#"u64[1]"}],"arg"#,
+            r#"u64[2]"}],"arg"#,
+            fault(
+                14,
+                Section::Returns,
+                0,
+                1,
+                "program fault P14 at returns 0 1",
+            ),
+        ),
+        (
+            r#"u64[1]"}],"arg"#,
+            r#"u64[1]","ubound":["0x1"]}],"arg"#,
+            fault(7, Section::Top, 0, 0, "program fault P07 at top 0 0"),
+        ),
+        (
+            r#"u64[1]"}],"body"#,
+            r#"u64[1]","lbound":null}],"body"#,
+            fault(
+                1,
+                Section::Arguments,
+                0,
+                0,
+                "program fault P01 at arguments 0 0",
+            ),
+        ),
+        (
+            r#"u64[1]"}],"body"#,
+            r#"u64[0]"}],"body"#,
+            fault(
+                3,
+                Section::Arguments,
+                0,
+                0,
+                "program fault P03 at arguments 0 0",
+            ),
+        ),
+        (
+            r#"u64[1]"}],"body"#,
+            r#"u64[33]"}],"body"#,
+            fault(
+                3,
+                Section::Arguments,
+                0,
+                0,
+                "program fault P03 at arguments 0 0",
+            ),
+        ),
+        (
+            r#"u64[1]"}],"body"#,
+            r#"u64[01]"}],"body"#,
+            fault(
+                3,
+                Section::Arguments,
+                0,
+                0,
+                "program fault P03 at arguments 0 0",
+            ),
+        ),
+        (
+            r#"u64[1]"}],"body"#,
+            r#"u64"}],"body"#,
+            fault(9, Section::Body, 0, 1, "program fault P09 at body 0 1"),
+        ),
+        (
+            r#"{"name":"arg1","datatype":"u64[1]"}"#,
+            "",
+            fault(9, Section::Body, 0, 1, "program fault P09 at body 0 1"),
+        ),
+        (
+            "arg1",
+            "out1",
+            fault(
+                10,
+                Section::Arguments,
+                0,
+                0,
+                "program fault P10 at arguments 0 0",
+            ),
+        ),
+        (
+            r#""arg1[0]""#,
+            r#""arg1[1]""#,
+            fault(9, Section::Body, 0, 1, "program fault P09 at body 0 1"),
+        ),
+        (
+            r#""arg1[0]""#,
+            r#""arg1""#,
+            fault(9, Section::Body, 0, 1, "program fault P09 at body 0 1"),
+        ),
+        (
+            r#""arg1[0]""#,
+            r#""arg1[0]","arg1[0]""#,
+            fault(8, Section::Body, 0, 0, "program fault P08 at body 0 0"),
+        ),
+        (
+            r#""out1[0]""#,
+            r#""out1[1]""#,
+            fault(14, Section::Body, 0, 2, "program fault P14 at body 0 2"),
+        ),
+        (
+            r#""out1[0]""#,
+            r#""_""#,
+            fault(
+                14,
+                Section::Returns,
+                0,
+                0,
+                "program fault P14 at returns 0 0",
+            ),
+        ),
+        (
+            r#"["out1[0]"]"#,
+            r#""out1[0]""#,
+            fault(1, Section::Body, 0, 0, "program fault P01 at body 0 0"),
+        ),
+        (
+            r#""=""#,
+            r#""+""#,
+            fault(8, Section::Body, 0, 0, "program fault P08 at body 0 0"),
+        ),
+        (
+            r#""=""#,
+            r#""copy""#,
+            fault(7, Section::Body, 0, 0, "program fault P07 at body 0 0"),
+        ),
         (
             r#"["arg1[0]"]}"#,
             r#"["arg1[0]"]},{"operation":"=","name":["_"],"arguments":["arg1[0]"]}"#,
+            fault(7, Section::Top, 0, 0, "program fault P07 at top 0 0"),
         ),
     ] {
         let program = COPY1.replace(rt.alloc(), piece, by)?;
         assert!(rt;
-            refuses(rt.alloc(), &WORDS, program.as_bytes(), NO_PROGRAM, 2)?,
+            refuses(rt.alloc(), &WORDS, program.as_bytes(), end, 2)?,
             "{by}"
         );
     }
     let deep = nested(rt.alloc(), 127)?;
-    assert!(rt; refuses(rt.alloc(), &WORDS, deep.as_bytes(), NO_PROGRAM, 2)?);
+    let end = fault(1, Section::Top, 0, 0, "program fault P01 at top 0 0");
+    assert!(rt; refuses(rt.alloc(), &WORDS, deep.as_bytes(), end, 2)?);
     Ok(())
 }
 

@@ -1,0 +1,43 @@
+ghost use Rattle.std.specs.Prelude.{◌≡◌, ◌==◌, IfOk, List, map, option_map};
+ghost use Rattle.std.specs.List.{slice_split};
+ghost use Rattle.search_top.specs.Inputs as spec;
+
+use std::alloc::{AllocError, Global};
+
+/// The words of a list with commas, and none where a piece of it is no word. A list that is not there has no
+/// words.
+pub fn inputs_or_none(alloc: Global, list: Option<&str>) -> Result<Option<Vec<u64>>, AllocError>
+    ensures { IfOk result (λ found. option_map (λ v. v.items) found ≡ spec.inputs_or_none (option_map (λ l. l.now) list.entry)) }
+{
+    match list {
+        None => Ok(Some(Vec::new(alloc))),
+        Some(list) => inputs_of(alloc, list),
+    }
+}
+
+#[tactic(auto, unfolding(crate::specs::Inputs::inputs_of))]
+fn inputs_of(alloc: Global, list: &str) -> Result<Option<Vec<u64>>, AllocError>
+    ensures { IfOk result (λ found. option_map (λ v. v.items) found ≡ spec.inputs_of list.now) }
+{
+    let pieces = pieces_of(alloc, list)?;
+    words_of(alloc, pieces.as_slice())
+}
+
+fn pieces_of<'a>(alloc: Global, list: &'a str) -> Result<Vec<&'a str>, AllocError>
+    ensures { IfOk result (λ v. map (λ piece. piece.now) v.items ≡ slice_split (λ b. b == 44) list.entry.now) }
+{
+    list.split(',').collect(alloc)
+}
+
+fn words_of(alloc: Global, texts: &[&str]) -> Result<Option<Vec<u64>>, AllocError>
+    ensures { IfOk result (λ found. option_map (λ v. v.items) found ≡ spec.words_of (map (λ text. text.now) texts.now)) }
+{
+    let mut words = Vec::new(alloc);
+    for text in texts {
+        let Some(word) = word_text::word(text) else {
+            return Ok(None);
+        };
+        words.push(word)?;
+    }
+    Ok(Some(words))
+}

@@ -1,0 +1,42 @@
+ghost use Rattle.std.specs.Prelude.{◌≡◌, ◌≤◌, ℕ, List, IfOk, IfErr};
+ghost use Rattle.io_ports.specs.Shelf.{raised};
+ghost use Rattle.search_top.specs.Loading.{IsLoaded, RefusesProgram};
+
+use crate::status::Status;
+use fiat_json::ReadFault;
+use io_ports::{Fault, Shelf};
+use std::alloc::Global;
+use word_program::{Program, Text};
+
+/// How many bytes a program's file may have.
+pub const PROGRAM_LIMIT: u64 = 1_048_576;
+
+/// The program in a file, or the status of the command that wants it. `label` is the file's name for the
+/// status.
+pub fn load_program<S: Shelf>(
+    alloc: Global,
+    name: &str,
+    label: Text,
+    shelf: &mut S,
+) -> Result<Program, Status>
+    requires { label ≡ name.now }
+    ensures program { IfOk result (IsLoaded (S.held shelf.old name.now)) }
+    ensures refused { IfErr result (RefusesProgram name.now (S.held shelf.old name.now) (S.faults shelf.old) (S.faults shelf.new)) }
+    ensures files { (n : List ℕ) → S.held shelf.new n ≡ S.held shelf.old n }
+    ensures output { S.said shelf.new ≡ S.said shelf.old }
+    ensures count { S.calls shelf.new ≡ raised (S.calls shelf.old) }
+    ensures later { S.faults shelf.old ≤ S.faults shelf.new }
+{
+    let bytes = match shelf.load(alloc, name, PROGRAM_LIMIT) {
+        Ok(bytes) => bytes,
+        Err(Fault::Failed) => return Err(Status::ReadFault(label)),
+        Err(Fault::TooLong) => return Err(Status::TooLong(label, PROGRAM_LIMIT)),
+        Err(Fault::Memory) => return Err(Status::OutOfMemory),
+    };
+    match fiat_json::read_program(alloc, bytes.as_slice()) {
+        Ok(program) => Ok(program),
+        Err(ReadFault::NotJson) => Err(Status::NotJson),
+        Err(ReadFault::Program { code, place }) => Err(Status::Program(code, place)),
+        Err(ReadFault::Memory) => Err(Status::OutOfMemory),
+    }
+}
