@@ -3,6 +3,7 @@
 
 use io_ports::{HostShelf, Shelf};
 use search_top::Status;
+use std::alloc::Global;
 use std::io::ErrorKind;
 use std::process::ExitCode;
 use std::{env, io};
