@@ -1,5 +1,5 @@
 /// What an operation computes. A shift count is from 1 to 63.
-#[derive(Clone, Copy)]
+#[derive(Clone, Copy, PartialEq, Eq)]
 pub enum Kind {
     /// `addcarryx` of c, a, b: the sum modulo 2^64, and the carry.
     AddCarry,

@@ -10,3 +10,4 @@ pub mod CopyLemmas
 pub mod OperandKept
 pub mod OpsKept
 pub mod WrittenKept
+pub mod SameLemmas

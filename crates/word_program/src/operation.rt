@@ -2,7 +2,7 @@ use word_operations::Kind;
 use word_text::Items;
 
 /// A word that an operation reads.
-#[derive(Clone, Copy)]
+#[derive(Clone, Copy, PartialEq, Eq)]
 pub enum Operand {
     /// The number itself.
     Literal(u64),
@@ -13,7 +13,7 @@ pub enum Operand {
 }
 
 /// Where an operation puts a result.
-#[derive(Clone, Copy)]
+#[derive(Clone, Copy, PartialEq, Eq)]
 pub enum Target {
     /// Later operations may read it by its value number.
     Value,
@@ -30,7 +30,7 @@ pub type OperandList = Items<Operand>;
 pub type TargetList = Items<Target>;
 
 /// An operation: what it computes, from what, and where its results go.
-#[derive(Drop)]
+#[derive(PartialEq, Eq, Drop)]
 pub struct Op {
     pub kind: Kind,
     pub args: OperandList,

@@ -1,7 +1,7 @@
 use word_text::{Items, Text};
 
 /// The least and the greatest value of a word, both of which it may have.
-#[derive(Clone, Copy)]
+#[derive(Clone, Copy, PartialEq, Eq)]
 pub struct Bounds {
     pub low: u64,
     pub high: u64,
@@ -11,7 +11,7 @@ pub struct Bounds {
 pub type BoundsList = Items<Bounds>;
 
 /// What a parameter is for.
-#[derive(Clone, Copy)]
+#[derive(Clone, Copy, PartialEq, Eq)]
 pub enum Role {
     /// An array that the function writes.
     Output,
@@ -22,7 +22,7 @@ pub enum Role {
 }
 
 /// A parameter: a name, a role, and the bounds of each word, of which a scalar has one.
-#[derive(Drop)]
+#[derive(PartialEq, Eq, Drop)]
 pub struct Param {
     pub name: Text,
     pub role: Role,

@@ -1,4 +1,4 @@
-ghost use Rattle.std.specs.Prelude.{◌≡◌, ◌<◌, ◌≤◌, ◌+◌, None, IfOk, IfErr, OnOk, length, sum_by};
+ghost use Rattle.std.specs.Prelude.{◌≡◌, ◌<◌, ◌≤◌, ◌+◌, None, Decides, IfOk, IfErr, OnOk, length, sum_by};
 ghost use Rattle.word_program.specs.Accepted.{IsAccepted, IsKept};
 ghost use Rattle.word_program.specs.Rules.{first_fault, program_of, top_rules};
 ghost use Rattle.word_program.specs.Values as values;
@@ -141,6 +141,19 @@ impl Program {
         ensures { result.now ≡ values.targets_of self.now.ops }
     {
         self.targets.as_slice()
+    }
+
+    /// Whether the two programs are equal: their names, their parameters and their operations.
+    pub fn same(&self, other: &Program) -> bool
+        ensures { Decides result (self.now ≡ other.now) }
+    {
+        if self.name != other.name {
+            return false;
+        }
+        if self.params != other.params {
+            return false;
+        }
+        self.ops == other.ops
     }
 
     /// Whether an operand is a bit: the literal 0 or 1, an input word of at most 1, or a value that its
