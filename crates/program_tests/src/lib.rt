@@ -3,6 +3,10 @@
 #![tactic(auto)]
 
 #[cfg(test)]
-mod programs;
+mod evaluation;
+#[cfg(test)]
+mod parts;
+#[cfg(test)]
+mod rules;
 #[cfg(test)]
 mod shelves;
