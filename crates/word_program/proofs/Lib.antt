@@ -11,3 +11,4 @@ pub mod OperandKept
 pub mod OpsKept
 pub mod WrittenKept
 pub mod SameLemmas
+pub mod LookupLemmas

@@ -1,7 +1,7 @@
 -- What operands and targets keep.
 use Rattle.std.proofs.Common.{◌≡◌, ℕ, ◌+◌, ◌^◌, ◌<◌, Bool, true, false, List, [], ◌∷◌, length, refl, arith, zero, suc, sym, ◌∙◌, ap, subst}
 use Rattle.std.proofs.lemmas.Bool.Decides.{nat_tests}
-use Rattle.std.specs.Prelude.{Option, Some, None, ◌&&◌, nat_lt, min, cond, option_map, option_and_then, slice_get, if◌then◌else◌}
+use Rattle.std.specs.Prelude.{Option, Some, None, ◌&&◌, nat_lt, cond, option_map, option_and_then, slice_get, if◌then◌else◌}
 use Rattle.std.specs.List.{AllByRecursion, position_from}
 use Rattle.std.specs.Option.{option_or, option_map_or}
 use Rattle.std.specs.Str.{bytes_eq}
@@ -109,10 +109,10 @@ word_is params text w e =
     let a = bind_some _ (word_parts text) w e in
     let b = bind_some _ (numbered params a.0.0) w a.2 in
     let c = bind_some _ (slice_get params b.0) w b.2 in
-    let d = bind_some _ (index_below a.0.1 (min 32 (length c.0.bounds))) w c.2 in
+    let d = bind_some _ (index_below a.0.1 (length c.0.bounds)) w c.2 in
     let made : Some (record { role = c.0.role; param = b.0; word = d.0 }) ≡ Some w = d.2 in
     let same : record { role = c.0.role; param = b.0; word = d.0 } ≡ w = cc in
-    let near = index_range a.0.1 (min 32 (length c.0.bounds)) d.0 d.1 in
+    let near = index_range a.0.1 (length c.0.bounds) d.0 d.1 in
     subst (IsWordOf params) same record { found = c.0; there = c.1; role = refl; within = omega arith }
 
 pub array_is : (params : List Param) (values : ℕ) (text : List ℕ) (o : Operand) → array_operand params text ≡ Some o → IsOperand params values o

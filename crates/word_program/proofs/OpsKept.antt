@@ -1,8 +1,8 @@
 -- What operations keep that break no rule.
-use Rattle.std.proofs.Common.{◌≡◌, ℕ, ◌+◌, ◌<◌, ◌≤◌, Bool, true, false, List, [], ◌∷◌, ◌++◌, map, length, take, refl, arith, zero, suc, sym, ◌∙◌, ap, subst, zero-add, append_assoc}
+use Rattle.std.proofs.Common.{◌≡◌, ℕ, ◌+◌, ◌<◌, ◌≤◌, Bool, true, false, List, [], ◌∷◌, ◌++◌, map, length, take, refl, arith, zero, suc, sym, ◌∙◌, ap, subst, zero-add, add-zero, append_assoc}
 use Rattle.std.proofs.lemmas.Bool.Decides.{nat_tests}
 use Rattle.std.proofs.lemmas.List.{append-nil, length-append, length-map, length-take}
-use Rattle.std.specs.Prelude.{Option, Some, None, is_none, not, ◌&&◌, ◌==◌, min, fold, slice_get, slice_index_or, if◌then◌else◌}
+use Rattle.std.specs.Prelude.{Option, Some, None, is_none, not, ◌&&◌, ◌==◌, min, fold, slice_get, slice_index_or, if◌then◌else◌, IfSome, IsTrue}
 use Rattle.std.specs.List.{AllByRecursion}
 use Rattle.word_text.specs.declared.fault.Section.TheVariants.{Body}
 use Rattle.word_text.specs.declared.parts.RawOp.{RawOp}
@@ -151,6 +151,48 @@ argument_at s i kind (text ∷ texts) n (suc j) d all none lt =
     let rest = argument_at s i kind texts (n + 1) j d all r.1 (omega arith) in
     (rest.0, subst (λ (k : ℕ). IsArgument s kind k rest.0) e rest.1, rest.2, rest.3)
 
+is_same : (n : ℕ) → (n == n) ≡ true
+is_same n = grind (arith, nat_tests)
+
+with_bit : (kind : Kind) → has_count kind ≡ true → needs_count kind (operand_count kind) ≡ true
+with_bit kind e = rw (e, is_same (operand_count kind)) refl
+
+-- the argument behind the operands is a shift count
+count_passes : (s : Scope) (kind : Kind) (place : ℕ) (text : List ℕ) → first_code (argument_rules s kind place text) ≡ None → needs_count kind place ≡ true → is_count (read_as s text) ≡ true
+unfolding argument_rules
+count_passes s kind place text none =
+    let r = rows4 9 11 12 13 (not (starts_with_digit text) && is_none (operand_of s text)) (starts_with_digit text && is_none (operand_of s text))
+    (needs_count kind place && not (is_count (read_as s text))) (needs_bit kind place && not (is_bit_by s.params s.bits (read_as s text))) none in
+    needed (needs_count kind place) (is_count (read_as s text)) r.2
+
+count_at : (s : Scope) (i : ℕ) (kind : Kind) (texts : List (List ℕ)) (n j : ℕ) → walk (argument_fault s i kind) (λ u text. u) tt n texts ≡ None
+    → needs_count kind (n + j) ≡ true → IfSome (slice_get (map (read_as s) texts) j) (λ o. IsTrue (is_count o))
+count_at s i kind [] n j none need = tt
+count_at s i kind (text ∷ texts) n zero none need =
+    let r = or_none (argument_fault s i kind tt n text) (walk (argument_fault s i kind) (λ u text. u) tt (n + 1) texts) none in
+    let e : n + 0 ≡ n = omega arith in
+    count_passes s kind n text (at_none (place_in Body i (1 + n)) (argument_rules s kind n text) r.0) (subst (λ (k : ℕ). needs_count kind k ≡ true) e need)
+count_at s i kind (text ∷ texts) n (suc j) none need =
+    let r = or_none (argument_fault s i kind tt n text) (walk (argument_fault s i kind) (λ u text. u) tt (n + 1) texts) none in
+    let e : n + suc j ≡ n + 1 + j = omega arith in
+    count_at s i kind texts (n + 1) j r.1 (subst (λ (k : ℕ). needs_count kind k ≡ true) e need)
+
+nothing_behind : (s : Scope) (texts : List (List ℕ)) (j : ℕ) → length texts ≡ j → slice_get (map (read_as s) texts) j ≡ None
+nothing_behind s [] j e = refl
+nothing_behind s (text ∷ texts) zero e = absurd (omega arith)
+nothing_behind s (text ∷ texts) (suc j) e = nothing_behind s texts j (omega arith)
+
+counted_by : (s : Scope) (i : ℕ) (kind : Kind) (texts : List (List ℕ)) (b : Bool) → has_count kind ≡ b → walk (argument_fault s i kind) (λ u text. u) tt 0 texts ≡ None
+    → length texts ≡ operand_count kind + (if b then 1 else 0) → IfSome (slice_get (map (read_as s) texts) (operand_count kind)) (λ o. IsTrue (is_count o))
+counted_by s i kind texts true has none count = count_at s i kind texts 0 (operand_count kind) none (ap (needs_count kind) (zero-add (operand_count kind)) ∙ with_bit kind has)
+counted_by s i kind texts false has none count = subst (λ (o : Option Operand). IfSome o (λ o. IsTrue (is_count o))) (sym (nothing_behind s texts (operand_count kind) (count ∙ add-zero (operand_count kind)))) tt
+
+-- where no argument breaks a rule, the one behind the operands is a shift count
+pub counted : (s : Scope) (i : ℕ) (kind : Kind) (texts : List (List ℕ)) (operands : List Operand) → walk (argument_fault s i kind) (λ u text. u) tt 0 texts ≡ None
+    → length texts ≡ argument_count kind → operands ≡ map (λ text. operand_or (operand_of s text)) texts → IfSome (slice_get operands (operand_count kind)) (λ o. IsTrue (is_count o))
+counted s i kind texts operands none count is =
+    subst (λ (xs : List Operand). IfSome (slice_get xs (operand_count kind)) (λ o. IsTrue (is_count o))) (sym is) (counted_by s i kind texts (has_count kind) refl none count)
+
 all_take : {X : Type 0} (P : X → Type 0) (n : ℕ) (xs : List X) → AllByRecursion P xs → AllByRecursion P (take n xs)
 all_take P zero xs all = tt
 all_take P (suc n) [] all = tt
@@ -170,12 +212,6 @@ all_targets params [] = tt
 all_targets params (text ∷ texts) = (target_is params text, all_targets params texts)
 
 -- ---- operations
-
-is_same : (n : ℕ) → (n == n) ≡ true
-is_same n = grind (arith, nat_tests)
-
-with_bit : (kind : Kind) → has_count kind ≡ true → needs_count kind (operand_count kind) ≡ true
-with_bit kind e = rw (e, is_same (operand_count kind)) refl
 
 first_bit_needed : (kind : Kind) → takes_bit kind ≡ true → needs_bit kind 0 ≡ true
 first_bit_needed kind e = rw e refl

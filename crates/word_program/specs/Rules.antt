@@ -1,7 +1,7 @@
 -- What a program must be, as tables of rules. The rules are tried in this order: those of the program as a
 -- whole, of each return, of each argument, of each operation, and last that every output word is written.
 -- A later row of a table may read a default where an earlier row fails.
-use Rattle.std.specs.Prelude.{ℕ, ◌+◌, ◌-◌, ◌^◌, min, Bool, true, false, not, ◌&&◌, ◌||◌, ◌==◌, nat_lt, nat_le, List, [], ◌∷◌, ◌++◌, length, map, take, fold, codes, Option, Some, None, is_some, is_none, unwrap_or, option_map, option_and_then, slice_get, if◌then◌else◌}
+use Rattle.std.specs.Prelude.{ℕ, ◌+◌, ◌-◌, ◌^◌, Bool, true, false, not, ◌&&◌, ◌||◌, ◌==◌, nat_lt, nat_le, List, [], ◌∷◌, ◌++◌, length, map, take, fold, codes, Option, Some, None, is_some, is_none, unwrap_or, option_map, option_and_then, slice_get, if◌then◌else◌}
 use Rattle.std.specs.List.{position_from, list_all, list_any, range_with_len}
 use Rattle.std.specs.Option.{option_or, option_map_or}
 use Rattle.std.specs.Str.{bytes_eq}
@@ -149,13 +149,13 @@ start params = record { params = params; names = []; targets = []; bits = []; op
 abbrev pub known : List (List ℕ) → List ℕ → Option ℕ
 known names name = if is_identifier name then position_from (λ n. bytes_eq n name) 0 names else None
 
--- the word `name[index]` of a parameter, which has at most 32 words, and the parameter's role
+-- the word `name[index]` of a parameter, and the parameter's role
 unfoldable pub word_at : List Param → List ℕ → Option ParamWord
 word_at params text = do
   parts ← word_parts text
   param ← numbered params parts.0
   p ← slice_get params param
-  number ← index_below parts.1 (min 32 (length p.bounds))
+  number ← index_below parts.1 (length p.bounds)
   Some (record { role = p.role; param = param; word = number })
 
 -- the scalar of this name
@@ -190,10 +190,10 @@ is_count (operands.Literal n) = nat_le 1 n && nat_le n 63
 is_count (operands.Input param word) = false
 is_count (operands.Value number) = false
 
--- the shift count that an operand is, at most 63
+-- the shift count that an operand is
 abbrev pub count_or : Option Operand → ℕ
 count_or None = 0
-count_or (Some (operands.Literal n)) = min n 63
+count_or (Some (operands.Literal n)) = n
 count_or (Some (operands.Input param number)) = 0
 count_or (Some (operands.Value number)) = 0
 

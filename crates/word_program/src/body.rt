@@ -1,4 +1,6 @@
-ghost use Rattle.std.specs.Prelude.{◌≡◌, ◌++◌, ◌+◌, ◌≤◌, ◌<◌, [], ◌∷◌, ℕ, length, map, fold, IfOk, OnOk};
+ghost use Rattle.std.specs.Prelude.{◌≡◌, ◌++◌, ◌+◌, ◌≤◌, ◌<◌, [], ◌∷◌, ℕ, length, map, fold, slice_get, IfOk, IfSome, IsTrue, OnOk};
+ghost use Rattle.std.specs.List.{AllByRecursion};
+ghost use Rattle.word_program.specs.Accepted.{IsParam};
 ghost use Rattle.word_program.specs.Rules as spec;
 ghost use Rattle.word_operations.specs.Operations as table;
 ghost use Rattle.word_program.specs.Walk.{Meets, walk, at, place_in};
@@ -16,7 +18,8 @@ use word_text::{Items, ProgramFault, RawOp, Section, Text};
 fn kind_of(item: u32, raw: &RawOp) -> Result<Kind, ProgramFault>
     ensures fault { Meets result (at (place_in Section.Body item 0) (spec.shape_rules raw.now)) }
     ensures value { IfOk result (λ kind. kind ≡ spec.kind_or (table.kind_named raw.now.operation)) }
-    ensures arguments { IfOk result (λ kind. length raw.now.arguments ≤ 3) }
+    ensures arguments { IfOk result (λ kind. length raw.now.arguments ≡ table.argument_count kind) }
+    ensures few { IfOk result (λ kind. length raw.now.arguments ≤ 3) }
     ensures results { IfOk result (λ kind. length raw.now.results ≤ 2) }
 {
     let Some(kind) = kind_named(raw.operation.as_str()) else {
@@ -88,17 +91,18 @@ fn results<'a>(
 
 /// The shift count that an operand is.
 fn count_or(operand: Option<Operand>) -> u8
-    ensures value { result ≡ spec.count_or operand }
-    ensures within { result ≤ 63 }
+    requires { IfSome operand (λ o. IsTrue (spec.is_count o)) }
+    ensures { result ≡ spec.count_or operand }
 {
     match operand {
-        Some(Operand::Literal(number)) => { if number < 63 { number as u8 } else { 63 } }
+        Some(Operand::Literal(number)) => number as u8,
         Some(Operand::Input { .. } | Operand::Value(_)) | None => 0,
     }
 }
 
 /// The operation on these operands, of which the one after the last is a shift count.
 fn op_on(kind: Kind, operands: Vec<Operand>, targets: TargetList) -> Op
+    requires { IfSome (slice_get operands.items (table.operand_count kind)) (λ o. IsTrue (spec.is_count o)) }
     ensures { result ≡ spec.op_on kind operands.items targets }
 {
     let mut operands = operands;
@@ -143,6 +147,7 @@ pub fn read_body<'a>(
     body: &'a [RawOp],
 ) -> Result<Reader<'a>, ProgramFault>
     requires few { length params.now ≤ 6 }
+    requires params { AllByRecursion IsParam params.now }
     requires short { length body.now ≤ 2048 }
     ensures fault { Meets result (walk spec.operation_fault spec.with_operation (spec.start params.entry.now) 0 body.entry.now) }
     ensures value { IfOk result (λ reader. reader ≡ spec.scope_after params.entry.now body.entry.now) }

@@ -1,12 +1,12 @@
 ghost use Rattle.std.specs.Prelude.{◌≡◌, ◌<◌, ◌≤◌, length};
-ghost use Rattle.std.specs.List.{list_any};
+ghost use Rattle.std.specs.List.{AllByRecursion, list_any};
+ghost use Rattle.word_program.specs.Accepted.{IsParam};
 ghost use Rattle.word_program.specs.Rules as spec;
 ghost use Rattle.word_program.specs.Values as values;
 
 use crate::operation::{Operand, Target};
 use crate::parameter::{Bounds, Param, Role};
 use crate::params::{ParamWord, numbered, word_at};
-use word_text::{is_identifier, is_unused};
 
 /// Whether words of this role are written.
 pub fn is_output(role: Role) -> bool
@@ -58,7 +58,8 @@ pub fn scalar_at(params: &[Param], name: &str) -> Option<Operand>
 /// The word of an input array that a text is.
 #[tactic(auto, unfolding(crate::specs::Rules::array_operand))]
 pub fn array_operand(params: &[Param], text: &str) -> Option<Operand>
-    requires { length params.now ≤ 6 }
+    requires few { length params.now ≤ 6 }
+    requires params { AllByRecursion IsParam params.now }
     ensures { result ≡ spec.array_operand params.now text.now }
 {
     let found = word_at(params, text)?;
@@ -75,7 +76,8 @@ pub fn array_operand(params: &[Param], text: &str) -> Option<Operand>
 /// The output word that a text is.
 #[tactic(auto, unfolding(crate::specs::Rules::output_at))]
 pub fn output_at(params: &[Param], text: &str) -> Option<ParamWord>
-    requires { length params.now ≤ 6 }
+    requires few { length params.now ≤ 6 }
+    requires params { AllByRecursion IsParam params.now }
     ensures { result ≡ spec.output_at params.now text.now }
 {
     let found = word_at(params, text)?;
@@ -83,27 +85,6 @@ pub fn output_at(params: &[Param], text: &str) -> Option<ParamWord>
         Some(found)
     } else {
         None
-    }
-}
-
-/// Where a result of this text goes.
-#[tactic(auto, unfolding(crate::specs::Rules::target_of))]
-pub fn target_of(params: &[Param], text: &str) -> Target
-    requires { length params.now ≤ 6 }
-    ensures { result ≡ spec.target_of params.now text.now }
-{
-    if is_identifier(text) {
-        return Target::Value;
-    }
-    if is_unused(text) {
-        return Target::Unused;
-    }
-    match output_at(params, text) {
-        Some(found) => Target::Output {
-            param: found.param,
-            word: found.word,
-        },
-        None => Target::Unused,
     }
 }
 

@@ -1,5 +1,7 @@
 ghost use Rattle.std.specs.Prelude.{◌≡◌, ◌++◌, ◌+◌, ◌≤◌, ◌<◌, ℕ, length, option_map, IfOk, IfSome, OnOk};
+ghost use Rattle.std.specs.List.{AllByRecursion};
 ghost use Rattle.std.specs.Option.{option_map_or};
+ghost use Rattle.word_program.specs.Accepted.{IsParam};
 ghost use Rattle.word_program.specs.Rules as spec;
 ghost use Rattle.word_program.specs.Walk.{Meets, walk, place_in};
 
@@ -166,16 +168,16 @@ pub fn numbered(params: &[Param], name: &str) -> Option<u8>
 }
 
 /// The word `name[index]` of a parameter.
-#[tactic(auto, unfolding(crate::specs::Rules::word_at))]
+#[tactic(auto, using(crate::proofs::LookupLemmas::few_words), unfolding(crate::specs::Rules::word_at))]
 pub fn word_at(params: &[Param], text: &str) -> Option<ParamWord>
-    requires { length params.now ≤ 6 }
+    requires few { length params.now ≤ 6 }
+    requires params { AllByRecursion IsParam params.now }
     ensures { result ≡ spec.word_at params.now text.now }
 {
     let (name, index) = word_parts(text)?;
     let number = numbered(params, name)?;
     let param = params.get(number as usize)?;
-    let most = param.bounds.items().len();
-    let word = index_below(index, if most < 32 { most } else { 32 })?;
+    let word = index_below(index, param.bounds.items().len())?;
     Some(ParamWord {
         role: param.role,
         param: number,

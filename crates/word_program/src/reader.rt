@@ -1,4 +1,6 @@
 ghost use Rattle.std.specs.Prelude.{◌≡◌, ◌++◌, ◌+◌, ◌≤◌, ◌<◌, [], ◌∷◌, ℕ, length, map, None, IfOk, OnOk, string_bytes};
+ghost use Rattle.std.specs.List.{AllByRecursion};
+ghost use Rattle.word_program.specs.Accepted.{IsParam};
 ghost use Rattle.word_program.specs.Rules as spec;
 ghost use Rattle.word_program.specs.Values as values;
 ghost use Rattle.word_program.specs.Walk.{Meets, MeetsCode, walk, first_code, at, place_in};
@@ -38,19 +40,22 @@ impl<'a> Model for Reader<'a> {
     ghost use Rattle.std.specs.BTreeMap.{get_by};
     ghost use Rattle.std.specs.Ordering.{nat_cmp};
     ghost use Rattle.std.specs.Cmp.Lexicographic.{slice_cmp};
+    ghost use Rattle.std.specs.List.{AllByRecursion};
+    ghost use Rattle.word_program.specs.Accepted.{IsParam};
     ghost use Rattle.word_program.specs.Rules.{Scope, known};
 
     ghost Value = { Scope };
 
     ghost view = { λ s. record { params = s.params.now; names = map (λ n. n.now) s.names.items; targets = s.targets.items; bits = s.bits.items; ops = s.ops } };
 
-    ghost invariant = { λ s. (length s.params.now ≤ 6) × ((t : List ℕ) → get_by (λ k. slice_cmp nat_cmp t k.now) s.index ≡ known (map (λ n. n.now) s.names.items) t) };
+    ghost invariant = { λ s. (length s.params.now ≤ 6) × (AllByRecursion IsParam s.params.now) × ((t : List ℕ) → get_by (λ k. slice_cmp nat_cmp t k.now) s.index ≡ known (map (λ n. n.now) s.names.items) t) };
 }
 
 impl<'a> Reader<'a> {
     /// Nothing but the parameters.
     pub fn new(alloc: Global, params: &'a [Param]) -> Reader<'a>
-        requires { length params.now ≤ 6 }
+        requires few { length params.now ≤ 6 }
+        requires params { AllByRecursion IsParam params.now }
         ensures { result ≡ spec.start params.entry.now }
     {
         Reader {
@@ -173,14 +178,6 @@ impl<'a> Reader<'a> {
         self.index.insert(text, number)?;
         self.names.push_reserved(text);
         Ok(())
-    }
-
-    /// The parameters.
-    pub fn params(&self) -> &'a [Param]
-        ensures params { result.now ≡ self.now.params }
-        ensures few { length result.now ≤ 6 }
-    {
-        self.params
     }
 
     /// The targets of the results so far.

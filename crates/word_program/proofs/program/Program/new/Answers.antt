@@ -26,3 +26,11 @@ invariant_of-result c =
       targets_kept = rw (c.into_parts-read.ensures.targets, c.into_parts-read.ensures.ops) kept.targets_kept;
       bits_kept = rw (c.into_parts-read.ensures.bits, c.into_parts-read.ensures.ops) kept.bits_kept;
     }
+
+pub read_body-requires-clause-params : goal.read_body-requires-clause-params
+read_body-requires-clause-params c =
+    let none : walk (parameter_fault Returns) (with_param Returns) [] 0 c.args.parts.now.returns ≡ None = search rules in
+    let is : c.parameters.new.params ≡ parameters_in Returns [] c.args.parts.now.returns = search rules in
+    let none2 : walk (parameter_fault Arguments) (with_param Arguments) c.parameters.new.params 0 c.args.parts.now.arguments ≡ None = search rules in
+    let is2 : c.items-3.result.now ≡ parameters_in Arguments c.parameters.new.params c.args.parts.now.arguments = search rules in
+    params_from c.args.parts.now _ _ none is none2 is2

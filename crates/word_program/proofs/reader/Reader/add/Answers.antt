@@ -11,20 +11,22 @@ use Rattle.word_program.proofs.reader.Reader.add.Goals as goal
 pub invariant_of-self-then-not-is_identifier : goal.invariant_of-self-then-not-is_identifier
 invariant_of-self-then-not-is_identifier c = (
   c.self.invariant.0,
+  c.self.invariant.1,
   λ (t : List ℕ).
       let other : is_identifier c.args.text.now ≡ false = search rules in
       rw (c.in_ok-push-2.ensures.items, map-append)
-      (c.self.invariant.1 t ∙ sym (known_unnamed _ _ t other)),
+      (c.self.invariant.2 t ∙ sym (known_unnamed _ _ t other)),
 )
 
 pub invariant_of-self-2 : goal.invariant_of-self-2
 invariant_of-self-2 c = (
   c.self.invariant.0,
+  c.self.invariant.1,
   λ (t : List ℕ).
       let named : is_identifier c.args.text.now ≡ true = search rules in
       let new : known (map (λ n. n.now) c.self.inside.names.items) c.args.text.now ≡ None = search rules in
       let count : length c.as_slice.result.now ≡ length (map (λ n. n.now) c.self.inside.names.items) = ap length c.as_slice.ensures.value ∙ sym (length-map c.self.inside.names.items _) in
       rw (c.push_reserved.ensures.items, map-append)
       (btree_map_updates_str c.args.text.now c.self.inside.index c.insert.new.self _ c.in_ok-insert.ensures.updates t
-      ∙ rw (c.self.invariant.1 t, count, c.try_reserve.ensures.items) (sym (known_more _ _ t named new))),
+      ∙ rw (c.self.invariant.2 t, count, c.try_reserve.ensures.items) (sym (known_more _ _ t named new))),
 )
