@@ -1,8 +1,9 @@
 -- How the graph is made: of each operation those that define its operands, in the order of the operands, and then
 -- the lists turned round, twice. A list of lists of numbers turned round is a list of lists again: in the one with
 -- the number m are the numbers of the lists that hold m, ascending and each once (the transposed relation).
-use Rattle.std.specs.Prelude.{ℕ, ◌+◌, Bool, false, ◌==◌, List, [], ◌∷◌, ◌++◌, length, map, replicate, fold, option_to_list, slice_get, slice_index_or, slice_set, if◌then◌else◌}
+use Rattle.std.specs.Prelude.{ℕ, ◌+◌, ◌-◌, Bool, false, ◌==◌, List, [], ◌∷◌, ◌++◌, length, map, replicate, fold, option_to_list, slice_get, slice_index_or, slice_set, if◌then◌else◌}
 use Rattle.std.specs.List.{flat_map, list_any, filter, range_with_len}
+use Rattle.std.specs.Option.{option_map_or}
 use Rattle.word_program.specs.declared.operation.Op.{Op}
 use Rattle.word_program.specs.declared.operation.Operand.{Operand}
 use Rattle.word_program.specs.declared.operation.Operand.TheVariants as operands
@@ -41,9 +42,7 @@ transposed lists = map (holders lists) (range_with_len 0 (length lists))
 
 -- the list ends with this number
 abbrev pub ends_with : ℕ → List ℕ → Bool
-ends_with number [] = false
-ends_with number (x ∷ []) = x == number
-ends_with number (x ∷ y ∷ ys) = ends_with number (y ∷ ys)
+ends_with number list = option_map_or (λ last. last == number) (slice_get list (length list - 1)) false
 
 -- the number at the end, unless it stands there already
 unfoldable pub put_last : ℕ → List ℕ → List ℕ
