@@ -3,7 +3,6 @@
 use Rattle.std.specs.Prelude.{◌≡◌, ℕ, ◌+◌, Bool, false, ◌&&◌, nat_lt, nat_le, List, [], length, map, take, slice_get}
 use Rattle.std.specs.List.{filter, list_any, range_with_len}
 use Rattle.std.specs.Option.{option_map_or}
-use Rattle.word_program.specs.declared.operation.Op.{Op}
 use Rattle.word_program.specs.declared.operation.Operand.{Operand}
 use Rattle.word_program.specs.declared.operation.Operand.TheVariants as operands
 use Rattle.word_program.specs.Program.{Source}
@@ -54,7 +53,7 @@ pub record Links : Type 0 where
   pub users : List (List ℕ)
 
 -- the links of all operations of a program
-unfoldable pub graph_of : Source → Links
+abbrev pub graph_of : Source → Links
 graph_of program = record { needs = map (needs_of program) (all_ops program); users = map (users_of program) (all_ops program) }
 
 -- these are the links of a program

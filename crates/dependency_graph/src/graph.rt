@@ -28,6 +28,7 @@ impl Model for Graph {
 
 impl Graph {
     /// The graph of a program. The one error is want of memory.
+    #[tactic(auto, using(crate::proofs::NeedLemmas::graph_is))]
     pub fn of(alloc: Global, program: &Program) -> Result<Graph, AllocError>
         ensures { IfOk result (λ graph. graph ≡ graph_of program.entry.now) }
     {

@@ -21,7 +21,7 @@ pub fn needs_are_the_needed_ops()
 
 /// An operation has another one among its needs exactly where the other one has it among its users.
 pub fn needs_and_users_are_converse()
-    ensures { (program : Source) (op other : ℕ) → op < length program.ops → has other (needs_of program op) ≡ has op (users_of program other) }
+    ensures { (program : Source) (op other : ℕ) → has other (needs_of program op) ≡ has op (users_of program other) }
 {}
 
 /// The operations that an operation needs stand before it.

@@ -3,21 +3,29 @@ ghost use Rattle.std.specs.List.{list_any};
 ghost use Rattle.word_program.specs.Values.{targets_of};
 ghost use Rattle.dependency_graph.specs.Needs as spec;
 
-use word_program::{Operand, Program};
+use word_program::{Op, Operand, Program};
+
+fn result_count(ops: &[Op]) -> u32
+    requires { length (targets_of ops.now) ≤ 4096 }
+    ensures { result ≡ length (targets_of ops.now) }
+{
+    let mut count = 0;
+    for op in ops {
+        count += op.targets.items().len() as u32;
+    }
+    count
+}
 
 /// The value number of an operation's first result, or how many values there are where the number is that of no
 /// operation. It takes no memory, and time that grows with the number.
+#[tactic(auto, unfolding(crate::specs::Needs::first_value), using(crate::proofs::OrderLemmas::results_limit))]
 pub fn first_value(program: &Program, op: u16) -> u32
     requires { op ≤ length program.now.ops }
     ensures first { result ≡ spec.first_value program.now op }
     ensures few { result ≤ length (targets_of program.now.ops) }
 {
     let (before, _) = program.ops().split_at(op as usize);
-    let mut first = 0;
-    for earlier in before {
-        first += earlier.targets.items().len() as u32;
-    }
-    first
+    result_count(before)
 }
 
 /// Whether the operand is a value, of which the number is at least `first` and below `end`.

@@ -1,5 +1,5 @@
 -- After a list, the lists are as the lists that are left want them.
-use Rattle.std.proofs.Common.{◌+◌, ◌∙◌, ap, arith}
+use Rattle.std.proofs.Common.{◌∙◌, ap, arith}
 use Rattle.dependency_graph.specs.Transposed.{entered}
 use Rattle.dependency_graph.proofs.TurnLemmas.{enter_all_kept}
 use Rattle.dependency_graph.proofs.turned.enter_all.Goals as goal
