@@ -1,0 +1,58 @@
+-- How the graph is made: of each operation those that define its operands, in the order of the operands, and then
+-- the lists turned round, twice. A list of lists of numbers turned round is a list of lists again: in the one with
+-- the number m are the numbers of the lists that hold m, ascending and each once (the transposed relation).
+use Rattle.std.specs.Prelude.{ℕ, ◌+◌, ◌-◌, Bool, false, ◌==◌, List, [], ◌∷◌, ◌++◌, length, map, replicate, fold, option_to_list, slice_get, slice_index_or, slice_set, if◌then◌else◌}
+use Rattle.std.specs.List.{flat_map, list_any, filter, range_with_len}
+use Rattle.std.specs.Option.{option_map_or}
+use Rattle.word_program.specs.declared.operation.Op.{Op}
+use Rattle.word_program.specs.declared.operation.Operand.{Operand}
+use Rattle.word_program.specs.declared.operation.Operand.TheVariants as operands
+
+-- the operation that defines each value of these operations, of which the first has this number
+abbrev pub makers_from : ℕ → List Op → List ℕ
+makers_from number [] = []
+makers_from number (op ∷ ops) = replicate (length op.targets) number ++ makers_from (number + 1) ops
+
+-- the operation that defines each value, by the value number
+abbrev pub makers_of : List Op → List ℕ
+makers_of ops = makers_from 0 ops
+
+-- the operation that defines an operand, where it is a value
+abbrev pub maker_of : List ℕ → Operand → List ℕ
+maker_of makers (operands.Literal word) = []
+maker_of makers (operands.Input param word) = []
+maker_of makers (operands.Value number) = option_to_list (slice_get makers number)
+
+-- the operations that define the operands of an operation, in the order of the operands
+abbrev pub reads_of : List ℕ → Op → List ℕ
+reads_of makers op = flat_map (maker_of makers) op.args
+
+abbrev pub has : ℕ → List ℕ → Bool
+has number list = list_any (λ other. other == number) list
+
+-- the numbers of the lists that hold this number
+abbrev pub holders : List (List ℕ) → ℕ → List ℕ
+holders lists number = filter (λ place. has number (slice_index_or lists place [])) (range_with_len 0 (length lists))
+
+-- the lists turned round
+unfoldable pub transposed : List (List ℕ) → List (List ℕ)
+transposed lists = map (holders lists) (range_with_len 0 (length lists))
+
+-- ---- turning round, list by list
+
+-- the list ends with this number
+abbrev pub ends_with : ℕ → List ℕ → Bool
+ends_with number list = option_map_or (λ last. last == number) (slice_get list (length list - 1)) false
+
+-- the number at the end, unless it stands there already
+unfoldable pub put_last : ℕ → List ℕ → List ℕ
+put_last number list = if ends_with number list then list else list ++ number ∷ []
+
+-- the number at the end of the lists at these places
+abbrev pub entered : ℕ → List (List ℕ) → List ℕ → List (List ℕ)
+entered number lists places = fold (λ ls place. slice_set ls place (put_last number (slice_index_or ls place []))) lists places
+
+-- the numbers of lists, of which the first has this one, at the end of the lists that they hold
+abbrev pub entered_all : ℕ → List (List ℕ) → List (List ℕ) → List (List ℕ)
+entered_all number lists [] = lists
+entered_all number lists (places ∷ sources) = entered_all (number + 1) (entered number lists places) sources
