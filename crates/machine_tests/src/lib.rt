@@ -3,10 +3,18 @@
 #![tactic(auto)]
 
 #[cfg(test)]
-mod named;
+mod edge_steps;
+#[cfg(test)]
+mod edges;
+#[cfg(test)]
+mod listings;
+#[cfg(test)]
+mod reading;
 #[cfg(test)]
 mod rows;
 #[cfg(test)]
 mod runs;
+#[cfg(test)]
+mod starts;
 #[cfg(test)]
 mod steps;

@@ -6,7 +6,7 @@
 pub const ROWS: &[&str] = &[
     "mov rax, rcx | 1 2 3 4 01u | 2 2 3 4 01u",
     "mov rax, [rbx] | 1 2 3 4 1u0 | 4 2 3 4 1u0",
-    "mov rax, 2^64 - 1 | 1 2 3 4 u10 | ffffffffffffffff 2 3 4 u10",
+    "mov rax, 18446744073709551615 | 1 2 3 4 u10 | ffffffffffffffff 2 3 4 u10",
     "mov [rbx], rax | 1 2 3 4 01u | 1 2 3 1 01u",
     "mov rax, rax | 8000000000000000 2 3 4 01u | 8000000000000000 2 3 4 01u",
     "movzx rax, cl | ffffffffffffffff 1234 3 4 01u | 34 1234 3 4 01u",

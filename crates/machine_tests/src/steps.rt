@@ -1,27 +1,24 @@
 //! The steps of the rows, by the public calls of `x86_meaning`.
-ghost use Rattle.std.specs.Prelude.{◌≡◌, false, IfSome};
-ghost use Rattle.x86_instr.specs.Listings.{is_ret};
-
-use crate::named::instr_named;
+use crate::reading::{listing_of, step_first};
 use crate::rows::{ROWS, STUCK};
 use std::alloc::{AllocError, Global};
-use x86_instr::Instr;
-use x86_meaning::{Cells, State, step};
+use std::test::Fail;
+use x86_meaning::{Cells, State};
 
 // The place of the one cell of memory, to which `rbx` points.
-const CELL: u64 = 4096;
+pub const CELL: u64 = 4096;
 
 // The words and the flags of a state.
 #[derive(Clone, Copy)]
-struct Values {
-    words: [u64; 4],
-    cf: Option<bool>,
-    of: Option<bool>,
-    zf: Option<bool>,
+pub struct Values {
+    pub words: [u64; 4],
+    pub cf: Option<bool>,
+    pub of: Option<bool>,
+    pub zf: Option<bool>,
 }
 
 // The flag with this number in a text of three.
-fn flag(text: &str, number: usize) -> Option<bool> {
+pub fn flag(text: &str, number: usize) -> Option<bool> {
     match text.as_bytes().get(number) {
         Some(b'0') => Some(false),
         Some(b'1') => Some(true),
@@ -44,7 +41,7 @@ fn values_in(text: &str) -> Option<Values> {
     })
 }
 
-fn state_of(alloc: Global, values: Values) -> Result<State, AllocError> {
+pub fn state_of(alloc: Global, values: Values) -> Result<State, AllocError> {
     let mut cells = Cells::new(alloc);
     cells.set(CELL, values.words[3])?;
     let mut regs = [0; 16];
@@ -71,17 +68,6 @@ fn has(state: &State, values: Values) -> bool {
         && state.zf == values.zf
 }
 
-// The instruction with this text, which is not `ret`.
-fn instr_of(text: &str) -> Option<Instr>
-    ensures { IfSome result (λ instr. is_ret instr ≡ false) }
-{
-    let instr = instr_named(text)?;
-    if instr.is_ret() {
-        return None;
-    }
-    Some(instr)
-}
-
 // The parts of a row between its bars.
 fn parts_of(row: &str) -> Option<(&str, &str, &str)> {
     let (text, rest) = row.split_once(" | ")?;
@@ -89,50 +75,38 @@ fn parts_of(row: &str) -> Option<(&str, &str, &str)> {
     Some((text, before, after))
 }
 
-// Whether the step from the first state is not stuck and leads to the second.
-fn leads(instr: &Instr, state: &mut State, after: Values) -> bool
-    requires { is_ret instr.now ≡ false }
-{
-    step(state, instr) && has(state, after)
-}
-
-// Whether the step from the state is stuck and leaves it.
-fn is_stuck(instr: &Instr, state: &mut State, before: Values) -> bool
-    requires { is_ret instr.now ≡ false }
-{
-    !step(state, instr) && has(state, before)
-}
-
 // Whether the instruction with this text leads from the first state to the second.
-fn text_leads(text: &str, state: &mut State, after: Values) -> bool {
-    match instr_of(text) {
-        Some(instr) => leads(&instr, state, after),
-        None => false,
-    }
+fn leads(alloc: Global, text: &str, before: Values, after: Values) -> Result<bool, Fail> {
+    let Some(listing) = listing_of(alloc, text)? else {
+        return Ok(false);
+    };
+    let mut state = state_of(alloc, before)?;
+    Ok(step_first(&listing, &mut state) && has(&state, after))
 }
 
-// Whether the instruction with this text is stuck in the state and leaves it.
-fn text_is_stuck(text: &str, state: &mut State, before: Values) -> bool {
-    match instr_of(text) {
-        Some(instr) => is_stuck(&instr, state, before),
-        None => false,
-    }
+// Whether the instruction with this text is no `ret`, is stuck in the state and leaves it.
+fn is_stuck(alloc: Global, text: &str, before: Values) -> Result<bool, Fail> {
+    let Some(listing) = listing_of(alloc, text)? else {
+        return Ok(false);
+    };
+    let mut state = state_of(alloc, before)?;
+    let stuck = !step_first(&listing, &mut state);
+    Ok(stuck && listing.lines().len() == 2 && has(&state, before))
 }
 
 #[test]
-fn each_row_is_stepped(rt: HostRuntime) -> Result<(), AllocError> {
+fn each_row_is_stepped(rt: HostRuntime) -> Result<(), Fail> {
     for row in ROWS {
         let (text, before, after) = parts_of(row).expect(&rt, "a row has three parts");
         let before = values_in(before).expect(&rt, "its second part has words and flags");
         let after = values_in(after).expect(&rt, "its third part has words and flags");
-        let mut state = state_of(rt.alloc(), before)?;
-        assert!(rt; text_leads(text, &mut state, after), "{row}");
+        assert!(rt; leads(rt.alloc(), text, before, after)?, "{row}");
     }
     Ok(())
 }
 
 #[test]
-fn stuck_rows_leave_the_state(rt: HostRuntime) -> Result<(), AllocError> {
+fn stuck_rows_leave_the_state(rt: HostRuntime) -> Result<(), Fail> {
     for row in STUCK {
         let (text, flags) = row.split_once(" | ").expect(&rt, "a row has two parts");
         let before = Values {
@@ -141,8 +115,7 @@ fn stuck_rows_leave_the_state(rt: HostRuntime) -> Result<(), AllocError> {
             of: flag(flags, 1),
             zf: flag(flags, 2),
         };
-        let mut state = state_of(rt.alloc(), before)?;
-        assert!(rt; text_is_stuck(text, &mut state, before), "{row}");
+        assert!(rt; is_stuck(rt.alloc(), text, before)?, "{row}");
     }
     Ok(())
 }

@@ -165,17 +165,15 @@ fn memory(_: AllocError) -> EvalFault
     EvalFault::Memory
 }
 
-/// The output words of a program on these input words, both in the order of the parameters. Where the number
+/// Whether these words are inputs of a program: as many as it has, each within its bounds. Where the number
 /// of words is another than the program's, the fault is `Count`, else where a word is out of its bounds, it is
 /// `OutOfBounds` of the first one.
 #[tactic(auto, using(crate::proofs::InputLemmas::within_by, crate::proofs::InputLemmas::inputs_limit))]
-pub fn eval(alloc: Global, program: &Program, inputs: &[u64]) -> Result<Vec<u64>, EvalFault>
+pub fn check_inputs(alloc: Global, program: &Program, inputs: &[u64]) -> Result<(), EvalFault>
     ensures within { OnOk result (values.AreWithin inputs.now (values.input_bounds program.now.params)) }
-    ensures outputs { IfOk result (λ words. words.items ≡ values.outputs program.entry.now inputs.entry.now) }
     ensures err { IfErr result (λ fault. Refuses program.entry.now inputs.entry.now fault) }
 {
-    let params = program.params();
-    let bounds = input_bounds(alloc, params).map_err(memory)?;
+    let bounds = input_bounds(alloc, program.params()).map_err(memory)?;
     let wanted = bounds.as_slice().len();
     if inputs.len() != wanted {
         return Err(EvalFault::Count {
@@ -186,6 +184,18 @@ pub fn eval(alloc: Global, program: &Program, inputs: &[u64]) -> Result<Vec<u64>
     if let Some(word) = outside(inputs, bounds.as_slice()) {
         return Err(EvalFault::OutOfBounds { word: word as u32 });
     }
+    Ok(())
+}
+
+/// The output words of a program on these input words, both in the order of the parameters. The faults are
+/// those of [`check_inputs`], and come where they come there.
+pub fn eval(alloc: Global, program: &Program, inputs: &[u64]) -> Result<Vec<u64>, EvalFault>
+    ensures within { OnOk result (values.AreWithin inputs.now (values.input_bounds program.now.params)) }
+    ensures outputs { IfOk result (λ words. words.items ≡ values.outputs program.entry.now inputs.entry.now) }
+    ensures err { IfErr result (λ fault. Refuses program.entry.now inputs.entry.now fault) }
+{
+    check_inputs(alloc, program, inputs)?;
+    let params = program.params();
     let so_far = values_of(alloc, params, program.ops(), inputs).map_err(memory)?;
     let words = outputs(alloc, params, program.targets(), so_far.as_slice()).map_err(memory)?;
     Ok(words)

@@ -21,7 +21,7 @@ mod program;
 mod reader;
 
 pub use copy::copy_form;
-pub use evaluation::{EvalFault, eval};
+pub use evaluation::{EvalFault, check_inputs, eval};
 pub use operation::{Op, Operand, OperandList, Target, TargetList};
 pub use parameter::{Bounds, BoundsList, Param, Role};
 pub use program::Program;

@@ -1,4 +1,4 @@
-ghost use Rattle.std.specs.Prelude.{◌≡◌, ◌<◌, ◌≤◌, ◌+◌, None, Decides, IfOk, IfErr, OnOk, length, sum_by};
+ghost use Rattle.std.specs.Prelude.{◌≡◌, ◌<◌, ◌≤◌, ◌+◌, None, Decides, IfOk, IfErr, OnOk, length, sum_by, take};
 ghost use Rattle.word_program.specs.Accepted.{IsAccepted, IsKept};
 ghost use Rattle.word_program.specs.Rules.{first_fault, program_of, top_rules};
 ghost use Rattle.word_program.specs.Values as values;
@@ -127,6 +127,14 @@ impl Program {
         ensures { result ≡ length (values.input_bounds self.now.params) }
     {
         offset_of(self.params(), 6) as u32
+    }
+
+    /// How many input words stand before those of the parameter with this number.
+    pub fn input_offset(&self, param: usize) -> usize
+        ensures count { result ≡ sum_by values.input_words (take param self.now.params) }
+        ensures limit { result ≤ 192 }
+    {
+        offset_of(self.params(), param)
     }
 
     /// How many words it writes: all words of its output parameters.

@@ -8,3 +8,4 @@ pub mod Funnel
 pub mod FrameLimits
 pub mod StatedIsStart
 pub mod StuckLines
+pub mod StatedRows

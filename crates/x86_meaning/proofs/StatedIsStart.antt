@@ -31,7 +31,7 @@ if_false b x y e = ap (λ c. if c then x else y) e
 -- ---- parameters
 
 -- a parameter with a word of an array is one of the list
-array_below : (params : List Param) (i word : ℕ) → word < array_words params i → i < length params
+pub array_below : (params : List Param) (i word : ℕ) → word < array_words params i → i < length params
 array_below [] i word h = absurd (omega arith)
 array_below (p ∷ ps) zero word h = omega arith
 array_below (p ∷ ps) (suc i) word h = let r : i < length ps = array_below ps i word h in omega (arith, r)

@@ -4,5 +4,6 @@ pub mod Runs
 pub mod Outcomes
 pub mod Start
 pub mod Stated
+pub mod StatedCells
 pub mod Correct
 pub mod Laws

@@ -1,8 +1,9 @@
 //! What x86-64 listings mean: the machine's states and steps, the states in which the calling convention
 //! lets a function start, and what it is for a listing to be correct for a program.
 //!
-//! It promises to whoever runs listings, as an emulator does, that [`step`] is the step of the definitions
-//! and [`run`] their run, both exactly, and that neither takes memory.
+//! It promises to whoever runs listings, as an emulator does, that [`State::start`] is the stated start state
+//! of the definitions, that [`step`] is their step and [`run`] their run, all exactly, and that the last two
+//! take no memory.
 //!
 //! The definitions are in `specs/`: `Machine` (states and steps), `Runs` (a listing's run), `Start`
 //! (the calling convention), `Stated` (one start state) and `Correct`. The instructions follow the Intel
@@ -16,6 +17,7 @@ mod execution;
 mod laws;
 mod listing_run;
 mod shifts;
+mod start;
 mod state;
 
 pub use cells::Cells;
