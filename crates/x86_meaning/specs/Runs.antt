@@ -1,11 +1,16 @@
 -- The run of a listing.
-use Rattle.std.specs.Prelude.{ℕ, ◌+◌, List, [], ◌∷◌, MatchOption, if◌then◌else◌}
+use Rattle.std.specs.Prelude.{◌≡◌, ℕ, ◌+◌, List, [], ◌∷◌, is_some, MatchOption, if◌then◌else◌}
+use Rattle.std.specs.FinMap as map
 use Rattle.std.specs.Option.{option_map_or}
 use Rattle.std.specs.Bool.{MatchBool}
 use Rattle.x86_instr.specs.declared.line.Line.{Line}
 use Rattle.x86_instr.specs.Listings.{is_ret}
 use Rattle.x86_meaning.specs.declared.state.State.{State}
 use Rattle.x86_meaning.specs.Machine.{step_of}
+
+-- the two states have cells at the same places
+abbrev pub SamePlaces : State → State → Type 0
+SamePlaces s t = (place : ℕ) → is_some (map.get t.cells place) ≡ is_some (map.get s.cells place)
 
 -- The run steps from line to line, and ends at `ret`. `Runs P Q lines s` says that the run of the lines
 -- from the state s is never stuck and ends at `ret`, that P holds in each of its states before the last
