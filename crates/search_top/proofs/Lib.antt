@@ -1,3 +1,5 @@
 pub mod CopyIsCorrect
 pub mod StartExists
+pub mod OutputWords
+pub mod StatedOutputs
 pub mod Telling

@@ -1,5 +1,5 @@
 -- What a shelf tells, through several calls.
-use Rattle.std.proofs.Common.{◌≡◌, ◌++◌, ℕ, Bool, true, false, List, take, subst, sym, ◌∙◌}
+use Rattle.std.proofs.Common.{◌≡◌, ℕ, true, false, List, subst}
 use Rattle.std.specs.Prelude.{Option, Some, None, IfSome, Result, Ok, Err, OnOk, OnErr, is_err}
 use Rattle.io_ports.specs.Shelf.{Stays, GrowsByPart}
 

@@ -3,8 +3,8 @@ pub mod Inputs
 pub mod Outputs
 pub mod Plain
 pub mod Cost
-pub mod Assembly
 pub mod Status
+pub mod Emulation
 pub mod Search
 pub mod Loading
 pub mod Command

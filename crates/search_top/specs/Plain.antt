@@ -21,7 +21,7 @@ use Rattle.x86_instr.specs.declared.instr.Bin.TheVariants.{Add, Sub}
 use Rattle.x86_instr.specs.declared.instr.Instr.{Instr}
 use Rattle.x86_instr.specs.declared.instr.Instr.TheVariants as instrs
 use Rattle.x86_instr.specs.declared.line.Line.{Line}
-use Rattle.x86_instr.specs.declared.listing.Listing.{Listing}
+use Rattle.x86_instr.specs.Listings.{NamedLines}
 use Rattle.x86_meaning.specs.Start.{param_reg}
 
 -- ---- lines and slots
@@ -115,5 +115,5 @@ lines_of params ops =
 abbrev pub plain_lines : Source → List Line
 plain_lines program = lines_of program.params program.ops
 
-abbrev pub plain_listing : Source → Listing
+abbrev pub plain_listing : Source → NamedLines
 plain_listing program = record { name = program.name; lines = plain_lines program }

@@ -16,7 +16,7 @@ use Rattle.search_top.specs.declared.status.Status.TheVariants as statuses
 use Rattle.search_top.specs.Words.{Files, files_of}
 use Rattle.search_top.specs.Plain.{plain_lines, plain_listing}
 use Rattle.search_top.specs.Cost.{cost_of}
-use Rattle.search_top.specs.Assembly.{text_of}
+use Rattle.asm_text.specs.Assembly.{text_of}
 
 -- how many bytes the file of a program may have
 abbrev pub limit : ℕ
@@ -104,6 +104,9 @@ CallsAfter (statuses.ReadFault name) before now = now ≡ raised_by 1 before
 CallsAfter (statuses.TooLong name most) before now = now ≡ raised_by 1 before
 CallsAfter statuses.NotJson before now = now ≡ raised_by 1 before
 CallsAfter (statuses.Program code place) before now = now ≡ raised_by 1 before
+CallsAfter (statuses.Text line) before now = ⊥
+CallsAfter (statuses.Listing fault) before now = ⊥
+CallsAfter (statuses.Stuck line) before now = ⊥
 CallsAfter (statuses.Inputs given wanted) before now = ⊥
 CallsAfter (statuses.OutOfBounds word) before now = ⊥
 CallsAfter (statuses.WriteFault name) before now = (now ≡ raised_by 2 before) ⊎ (now ≡ raised_by 3 before)

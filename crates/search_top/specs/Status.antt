@@ -3,6 +3,8 @@ use Rattle.std.specs.Prelude.{ℕ, List, [], ◌∷◌, ◌++◌, codes, decimal
 use Rattle.word_text.specs.declared.fault.Section.{Section}
 use Rattle.word_text.specs.declared.fault.Section.TheVariants as sections
 use Rattle.word_text.specs.declared.fault.Place.{Place}
+use Rattle.x86_instr.specs.declared.listing.ListingFault.{ListingFault}
+use Rattle.x86_instr.specs.declared.listing.ListingFault.TheVariants as causes
 use Rattle.search_top.specs.declared.status.Status.{Status}
 use Rattle.search_top.specs.declared.status.Status.TheVariants as statuses
 
@@ -14,6 +16,9 @@ exit_of (statuses.TooLong name limit) = 4
 exit_of statuses.NotJson = 5
 exit_of (statuses.Program code place) = 6
 exit_of (statuses.WriteFault name) = 7
+exit_of (statuses.Text line) = 8
+exit_of (statuses.Listing fault) = 9
+exit_of (statuses.Stuck line) = 11
 exit_of (statuses.Inputs given wanted) = 12
 exit_of (statuses.OutOfBounds word) = 13
 exit_of statuses.OutOfMemory = 17
@@ -23,6 +28,10 @@ section_text sections.Top = codes "top"
 section_text sections.Returns = codes "returns"
 section_text sections.Arguments = codes "arguments"
 section_text sections.Body = codes "body"
+
+abbrev pub listing_text : ListingFault → List ℕ
+listing_text causes.TooLong = codes "listing too long"
+listing_text causes.NoReturn = codes "listing without its return"
 
 -- with two digits at least
 unfoldable pub code_text : ℕ → List ℕ
@@ -52,6 +61,9 @@ line_of (statuses.TooLong name limit) = too_long_text name limit
 line_of statuses.NotJson = codes "not JSON"
 line_of (statuses.Program code place) = program_fault_text code place
 line_of (statuses.WriteFault name) = codes "cannot write " ++ name
+line_of (statuses.Text line) = codes "assembly line " ++ decimal line
+line_of (statuses.Listing fault) = listing_text fault
+line_of (statuses.Stuck line) = codes "stuck at " ++ decimal line
 line_of (statuses.Inputs given wanted) = inputs_text given wanted
 line_of (statuses.OutOfBounds word) = out_of_bounds_text word
 line_of statuses.OutOfMemory = codes "out of memory"

@@ -4,16 +4,29 @@ ghost use Rattle.search_top.specs.Words.{command_of};
 ghost use Rattle.search_top.specs.Search.{IfWriteFault, OnRefusal};
 ghost use Rattle.search_top.specs.Command.{IfCommand, Answers, CommandCalls, OnUsage};
 
+use crate::emulate_command::emulate_file;
 use crate::eval_command::eval_file;
 use crate::inputs::inputs_or_none;
+use crate::show_command::show_file;
 use crate::status::Status;
 use crate::words;
 use crate::words::CommandWords;
 use io_ports::Shelf;
 use std::alloc::Global;
 
-/// Runs a command that waits for nobody. The words are `eval PROGRAM [--in LIST]`: it reads the file PROGRAM,
-/// evaluates the program on the words of LIST, and says a line for each output word.
+/// Runs a command that waits for nobody.
+///
+/// - `eval PROGRAM [--in LIST]` reads the file PROGRAM, evaluates the program on the words of LIST, and says a
+///   line for each output word.
+/// - `emulate PROGRAM ASM [--in LIST]` also reads the file ASM, runs its listing from the stated start state of
+///   the program on the words of LIST, and says a line for each word that it leaves in the output arrays.
+/// - `show ASM` reads the file ASM, and says the canonical text of its listing.
+///
+/// The refusals come in the order in which the files are read: [`Status::Usage`]; for PROGRAM
+/// [`Status::ReadFault`], [`Status::TooLong`], [`Status::NotJson`] and [`Status::Program`]; for ASM
+/// [`Status::ReadFault`], [`Status::TooLong`], [`Status::Text`] and [`Status::Listing`]; [`Status::Inputs`] and
+/// [`Status::OutOfBounds`]; [`Status::Stuck`]; and last [`Status::WriteFault`] of standard output.
+/// [`Status::OutOfMemory`] comes only before that.
 pub fn command<S: Shelf>(alloc: Global, words: &[String], shelf: &mut S) -> Status
     // `Usage` comes exactly where the words are no command, unless there is no memory to read their list.
     ensures usage { OnUsage result (command_of (map string_bytes words.now) ≡ None) }
@@ -25,7 +38,7 @@ pub fn command<S: Shelf>(alloc: Global, words: &[String], shelf: &mut S) -> Stat
     // Standard output could not be written, and the shelf counted it.
     ensures write_fault { IfWriteFault result (λ n. (n ≡ codes "-") × Rose (S.faults shelf.old) (S.faults shelf.new)) }
 
-    // At most one load and one word on standard output.
+    // One load a file, and one word on standard output, each at most once.
     ensures calls { IfCommand (map string_bytes words.now) (λ c. CommandCalls c result (S.calls shelf.old) (S.calls shelf.new)) }
     ensures refusal_files { OnRefusal result ((n : List ℕ) → S.held shelf.new n ≡ S.held shelf.old n) }
     ensures refusal_output { OnRefusal result (S.said shelf.new ≡ S.said shelf.old) }
@@ -33,12 +46,18 @@ pub fn command<S: Shelf>(alloc: Global, words: &[String], shelf: &mut S) -> Stat
     // No file changes.
     ensures files { (n : List ℕ) → Stays (S.held shelf.old n) (S.held shelf.new n) }
 {
-    let Some(CommandWords::Eval { program, list }) = words::command_words(words) else {
-        return Status::Usage;
-    };
-    match inputs_or_none(alloc, list) {
-        Ok(Some(inputs)) => eval_file(alloc, program, inputs.as_slice(), shelf),
-        Ok(None) => Status::Usage,
-        Err(_) => Status::OutOfMemory,
+    match words::command_words(words) {
+        None => Status::Usage,
+        Some(CommandWords::Eval { program, list }) => match inputs_or_none(alloc, list) {
+            Ok(Some(inputs)) => eval_file(alloc, program, inputs.as_slice(), shelf),
+            Ok(None) => Status::Usage,
+            Err(_) => Status::OutOfMemory,
+        },
+        Some(CommandWords::Emulate { program, asm, list }) => match inputs_or_none(alloc, list) {
+            Ok(Some(inputs)) => emulate_file(alloc, program, asm, inputs.as_slice(), shelf),
+            Ok(None) => Status::Usage,
+            Err(_) => Status::OutOfMemory,
+        },
+        Some(CommandWords::Show { asm }) => show_file(alloc, asm, shelf),
     }
 }

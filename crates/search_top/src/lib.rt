@@ -4,9 +4,10 @@
 //! tool; the words that it cites are in `specs/`.
 #![tactic(auto)]
 
-mod assembly;
 mod commands;
 mod cost;
+mod emulate_command;
+mod emulation;
 mod eval_command;
 mod inputs;
 mod laws;
@@ -15,6 +16,7 @@ mod opening;
 mod outputs;
 mod plain;
 mod search_command;
+mod show_command;
 mod status;
 mod words;
 

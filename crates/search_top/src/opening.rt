@@ -4,10 +4,11 @@ ghost use Rattle.word_program.specs.Copy.{IsCopy};
 ghost use Rattle.word_program.specs.Walk.{place_in};
 ghost use Rattle.x86_meaning.specs.Correct.{IsCorrect};
 ghost use Rattle.search_top.specs.Plain.{plain_lines, plain_listing};
-ghost use Rattle.search_top.specs.Assembly.{text_of};
+ghost use Rattle.asm_text.specs.Assembly.{text_of};
 ghost use Rattle.search_top.specs.Search.{IsOpening, FailsToOpen, opening_text};
 
-use crate::{assembly, cost, plain};
+use crate::{cost, plain};
+use asm_text::write;
 use fiat_json::ReadFault;
 use std::alloc::{AllocError, Global};
 use word_program::{Place, Program, Section, copy_form};
@@ -16,14 +17,14 @@ use word_program::{Place, Program, Section, copy_form};
 #[derive(Drop)]
 pub struct Opening {
     /// The text of the listing.
-    pub text: String,
+    pub text: Vec<u8>,
     /// The line that tells its cost.
     pub line: String,
 }
 
 /// The opening of the program that the bytes are in JSON.
 pub fn opening_of(alloc: Global, bytes: &[u8]) -> Result<Opening, ReadFault>
-    ensures ok { IfOk result (λ o. IsOpening bytes.now (string_bytes o.text) (string_bytes o.line)) }
+    ensures ok { IfOk result (λ o. IsOpening bytes.now o.text.items (string_bytes o.line)) }
     ensures err { IfErr result (FailsToOpen bytes.now) }
 {
     let program = match fiat_json::read_program(alloc, bytes) {
@@ -55,13 +56,13 @@ fn not_searched() -> ReadFault
 
 fn plain_opening(alloc: Global, program: &Program) -> Result<Opening, AllocError>
     requires { IsCopy program.now }
-    ensures text { IfOk result (λ o. string_bytes o.text ≡ text_of (plain_listing program.now)) }
+    ensures text { IfOk result (λ o. o.text.items ≡ text_of (plain_listing program.now)) }
     ensures line { IfOk result (λ o. string_bytes o.line ≡ opening_text program.now) }
     ensures correct { IfOk result (λ o. IsCorrect program.now (plain_lines program.now)) }
 {
     let listing = plain::plain_listing(alloc, program)?;
     let cost = cost::cost_of(listing.lines());
-    let text = assembly::text_of(alloc, &listing)?;
+    let text = write(alloc, &listing)?;
     let line = opening_line(alloc, cost)?;
     Ok(Opening { text, line })
 }

@@ -25,7 +25,8 @@ pub fn output_lines(alloc: Global, params: &[Param], words: &[u64]) -> Result<St
     Ok(text)
 }
 
-fn is_output(role: Role) -> bool
+/// Whether a parameter of this role is an output.
+pub fn is_output(role: Role) -> bool
     ensures { result ≡ is_output role }
 {
     matches!(role, Role::Output)

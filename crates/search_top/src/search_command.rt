@@ -4,6 +4,7 @@ ghost use Rattle.search_top.specs.Words.{Files, texts_of, files_of};
 ghost use Rattle.fiat_json.specs.Reading.{IsNotJson};
 ghost use Rattle.search_top.specs.Search.{limit, HasFault, raised_by, IfReadFault, IfTooLong, OnNotJson, IfFiles, IfProgram, IfWriteFault, OnSuccess, OnRefusal, CallsAfter, Succeeds, FailsAtAsm, FailsAtOutput};
 
+use crate::loading::PROGRAM_LIMIT;
 use crate::status::Status;
 use crate::words::FileNames;
 use crate::{opening, words};
@@ -11,9 +12,6 @@ use fiat_json::ReadFault;
 use io_ports::{Fault, Shelf};
 use std::alloc::{AllocError, Global};
 use word_program::Text;
-
-/// How many bytes a program's file may have.
-const PROGRAM_LIMIT: u64 = 1_048_576;
 
 /// The names that a status may carry, copied before the first call of the shelf.
 #[derive(Drop)]
@@ -66,7 +64,7 @@ fn search_files<S: Shelf>(alloc: Global, files: FileNames<'_>, shelf: &mut S) ->
         Err(ReadFault::Program { code, place }) => return Status::Program(code, place),
         Err(ReadFault::Memory) => return Status::OutOfMemory,
     };
-    if shelf.store(files.asm, opening.text.as_bytes()).is_err() {
+    if shelf.store(files.asm, opening.text.as_slice()).is_err() {
         return Status::WriteFault(names.asm);
     }
     if shelf.say(opening.line.as_bytes()).is_err() {

@@ -1,9 +1,10 @@
-ghost use Rattle.std.specs.Prelude.{◌≡◌, ◌++◌, IfOk, OnOk, string_bytes};
-ghost use Rattle.search_top.specs.Status.{exit_of, section_text, code_text, place_text, too_long_text, program_fault_text, inputs_text, out_of_bounds_text, line_of};
+ghost use Rattle.std.specs.Prelude.{◌≡◌, ◌++◌, IfOk, OnOk, decimal, string_bytes};
+ghost use Rattle.search_top.specs.Status.{exit_of, listing_text, section_text, code_text, place_text, too_long_text, program_fault_text, inputs_text, out_of_bounds_text, line_of};
 
 use itoa::Buffer;
 use std::alloc::{AllocError, Global};
 use word_program::{Place, Section, Text};
+use x86_instr::ListingFault;
 
 /// How a command ended.
 #[derive(Drop)]
@@ -22,6 +23,12 @@ pub enum Status {
     Program(u8, Place),
     /// The file of this name, or standard output where the name is `-`, could not be written.
     WriteFault(Text),
+    /// This line of the assembly file, counted from 1, is the first that is no line of assembly text there.
+    Text(u32),
+    /// The assembly text has the lines of no listing.
+    Listing(ListingFault),
+    /// The listing's run is stuck at this line, counted from 1.
+    Stuck(u32),
     /// There are this many inputs, and the program wants that many.
     Inputs { given: u64, wanted: u64 },
     /// This input word, counted from 0, is the first one outside its bounds.
@@ -42,6 +49,9 @@ pub fn exit_of(status: &Status) -> u8
         Status::NotJson => 5,
         Status::Program(..) => 6,
         Status::WriteFault(_) => 7,
+        Status::Text(_) => 8,
+        Status::Listing(_) => 9,
+        Status::Stuck(_) => 11,
         Status::Inputs { .. } => 12,
         Status::OutOfBounds(_) => 13,
         Status::OutOfMemory => 17,
@@ -70,6 +80,9 @@ fn push_line(line: &mut String, status: &Status) -> Result<(), AllocError>
         Status::NotJson => line.push_str("not JSON"),
         Status::Program(code, place) => push_program_fault(line, *code, *place),
         Status::WriteFault(name) => push_named(line, "cannot write ", name),
+        Status::Text(number) => push_numbered(line, "assembly line ", *number),
+        Status::Listing(fault) => line.push_str(listing_text(*fault)),
+        Status::Stuck(number) => push_numbered(line, "stuck at ", *number),
         Status::Inputs { given, wanted } => push_inputs(line, *given, *wanted),
         Status::OutOfBounds(word) => push_out_of_bounds(line, *word),
         Status::OutOfMemory => line.push_str("out of memory"),
@@ -81,6 +94,22 @@ fn push_named(line: &mut String, front: &str, name: &Text) -> Result<(), AllocEr
 {
     line.push_str(front)?;
     line.push_str(name.as_str())
+}
+
+fn push_numbered(line: &mut String, front: &str, number: u32) -> Result<(), AllocError>
+    ensures { OnOk result (string_bytes line.new ≡ string_bytes line.old ++ (front.now ++ decimal number)) }
+{
+    line.push_str(front)?;
+    line.push_str(Buffer::new().format(number))
+}
+
+fn listing_text(fault: ListingFault) -> &'static str
+    ensures { result.now ≡ listing_text fault }
+{
+    match fault {
+        ListingFault::TooLong => "listing too long",
+        ListingFault::NoReturn => "listing without its return",
+    }
 }
 
 #[tactic(auto, unfolding(crate::specs::Status::too_long_text))]

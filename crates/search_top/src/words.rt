@@ -1,5 +1,5 @@
 ghost use Rattle.std.specs.Prelude.{◌≡◌, option_map, map, string_bytes};
-ghost use Rattle.search_top.specs.Words.{command_view, eval_rest, eval_words, command_texts, is_option, different_files, files_of};
+ghost use Rattle.search_top.specs.Words.{command_view, command_texts, different_files, emulate_words, eval_words, files_of, is_option, list_of, name_of, show_words};
 
 /// The files that a command line of `search` names, which are different texts.
 #[derive(Clone, Copy)]
@@ -41,10 +41,20 @@ fn is_option(word: &str) -> bool
 /// The words of a command that waits for nobody.
 #[derive(Clone, Copy)]
 pub enum CommandWords<'a> {
-    /// `eval PROGRAM`, and the words after `--in` where they are there.
+    /// `eval PROGRAM`, and the text after `--in` where it is there.
     Eval {
         program: &'a str,
         list: Option<&'a str>,
+    },
+    /// `emulate PROGRAM ASM`, and the text after `--in` where it is there.
+    Emulate {
+        program: &'a str,
+        asm: &'a str,
+        list: Option<&'a str>,
+    },
+    /// `show ASM`.
+    Show {
+        asm: &'a str,
     },
 }
 
@@ -53,10 +63,11 @@ pub fn command_words(words: &[String]) -> Option<CommandWords<'_>>
     ensures { option_map command_view result ≡ command_texts (map string_bytes words.now) }
 {
     let (command, rest) = words.split_first()?;
-    if command.as_str() == "eval" {
-        eval_words(rest)
-    } else {
-        None
+    match command.as_str() {
+        "eval" => eval_words(rest),
+        "emulate" => emulate_words(rest),
+        "show" => show_words(rest),
+        _ => None,
     }
 }
 
@@ -64,29 +75,51 @@ fn eval_words(words: &[String]) -> Option<CommandWords<'_>>
     ensures { option_map command_view result ≡ eval_words (map string_bytes words.now) }
 {
     let (program, rest) = words.split_first()?;
-    if is_option(program.as_str()) {
-        return None;
-    }
-    eval_rest(program.as_str(), rest)
+    let program = name_of(program.as_str())?;
+    let list = list_of(rest)?;
+    Some(CommandWords::Eval { program, list })
 }
 
-fn eval_rest<'a>(program: &'a str, rest: &'a [String]) -> Option<CommandWords<'a>>
-    ensures { option_map command_view result ≡ eval_rest program.entry.now (map string_bytes rest.entry.now) }
+fn emulate_words(words: &[String]) -> Option<CommandWords<'_>>
+    ensures { option_map command_view result ≡ emulate_words (map string_bytes words.now) }
 {
-    if rest.is_empty() {
-        return Some(CommandWords::Eval {
-            program,
-            list: None,
-        });
+    let (program, rest) = words.split_first()?;
+    let (asm, rest) = rest.split_first()?;
+    let program = name_of(program.as_str())?;
+    let asm = name_of(asm.as_str())?;
+    let list = list_of(rest)?;
+    Some(CommandWords::Emulate { program, asm, list })
+}
+
+fn show_words(words: &[String]) -> Option<CommandWords<'_>>
+    ensures { option_map command_view result ≡ show_words (map string_bytes words.now) }
+{
+    let [asm] = words else {
+        return None;
+    };
+    let asm = name_of(asm.as_str())?;
+    Some(CommandWords::Show { asm })
+}
+
+/// A word that does not begin with `-`.
+fn name_of(word: &str) -> Option<&str>
+    ensures { option_map (λ name. name.now) result ≡ name_of word.now }
+{
+    if is_option(word) { None } else { Some(word) }
+}
+
+/// The text after `--in`, where there is that option and nothing else, or no word at all.
+fn list_of(words: &[String]) -> Option<Option<&str>>
+    ensures { option_map (λ list. option_map (λ l. l.now) list) result ≡ list_of (map string_bytes words.now) }
+{
+    if words.is_empty() {
+        return Some(None);
     }
-    let [option, list] = rest else {
+    let [option, list] = words else {
         return None;
     };
     if option.as_str() != "--in" {
         return None;
     }
-    Some(CommandWords::Eval {
-        program,
-        list: Some(list.as_str()),
-    })
+    Some(Some(list.as_str()))
 }

@@ -1,0 +1,70 @@
+-- The run of a listing from the stated start state, and the words that it leaves in the output arrays.
+use Rattle.std.specs.Prelude.{◌≡◌, ℕ, zero, suc, ◌+◌, ◌*◌, ◌<◌, List, [], ◌∷◌, ◌++◌, length, IsSome, if◌then◌else◌}
+use Rattle.std.specs.Option.{option_map_or}
+use Rattle.std.specs.FinMap as map
+use Rattle.word_program.specs.declared.parameter.Param.{Param}
+use Rattle.word_program.specs.Program.{Source}
+use Rattle.word_program.specs.Values.{is_output, input_bounds, AreWithin}
+use Rattle.word_program.specs.declared.evaluation.EvalFault.TheVariants.{Count, OutOfBounds}
+use Rattle.word_program.specs.Evaluates.{Refuses}
+use Rattle.x86_instr.specs.declared.line.Line.{Line}
+use Rattle.x86_meaning.specs.declared.state.State.{State}
+use Rattle.x86_meaning.specs.Machine.{Cells}
+use Rattle.x86_meaning.specs.Runs.{Outcome, Ended, Stuck, run_from}
+use Rattle.x86_meaning.specs.Start.{output_words}
+use Rattle.x86_meaning.specs.Stated.{IsStated, array_place}
+use Rattle.search_top.specs.declared.status.Status.{Status}
+use Rattle.search_top.specs.declared.status.Status.TheVariants as statuses
+use Rattle.search_top.specs.Outputs.{output_lines}
+
+-- ---- the words in the output arrays
+
+-- the word in a cell, and 0 where there is none
+abbrev pub cell_word : Cells → ℕ → ℕ
+cell_word cells place = option_map_or (λ word. word) (map.get cells place) 0
+
+-- the words in so many cells from a place on
+unfoldable pub words_at : Cells → ℕ → ℕ → List ℕ
+words_at cells place zero = []
+words_at cells place (suc n) = words_at cells place n ++ (cell_word cells (place + 8 * n) ∷ [])
+
+-- the words in the output arrays of parameters of which the first has this number
+abbrev pub words_from : Cells → ℕ → List Param → List ℕ
+words_from cells number [] = []
+words_from cells number (p ∷ ps) =
+    if is_output p.role then words_at cells (array_place number) (length p.bounds) ++ words_from cells (number + 1) ps
+    else words_from cells (number + 1) ps
+
+-- all cells of the output arrays are there
+abbrev pub HasOutputs : List Param → Cells → Type 0
+HasOutputs params cells = (param word : ℕ) → word < output_words params param → IsSome (map.get cells (array_place param + 8 * word))
+
+-- ---- the run
+
+-- the inputs are within the program's bounds, and the run of the listing with these lines from the stated start
+-- state has this outcome
+pub record RunsTo (program : Source) (lines : List Line) (inputs : List ℕ) (outcome : Outcome) : Type 0 where
+  pub within : AreWithin inputs (input_bounds program.params)
+  pub start : State
+  pub stated : IsStated program lines inputs start
+  pub ends : run_from 1 lines start ≡ outcome
+
+-- the run ends, and the text tells the words that it leaves in the output arrays, all of whose cells are there
+pub record Tells (program : Source) (lines : List Line) (inputs text : List ℕ) : Type 0 where
+  pub last : State
+  pub runs : RunsTo program lines inputs (Ended last)
+  pub there : HasOutputs program.params last.cells
+  pub tells : text ≡ output_lines program.params (words_from last.cells 0 program.params)
+
+-- the run is stuck at this line, counted from 1
+pub record IsStuck (program : Source) (lines : List Line) (inputs : List ℕ) (line : ℕ) : Type 0 where
+  pub last : State
+  pub runs : RunsTo program lines inputs (Stuck line last)
+
+-- why there is no run to its end, by cases of the status
+abbrev pub RefusesRun : Source → List Line → List ℕ → Status → Type 0
+RefusesRun program lines inputs (statuses.Stuck line) = IsStuck program lines inputs line
+RefusesRun program lines inputs (statuses.Inputs given wanted) = Refuses program inputs (Count given wanted)
+RefusesRun program lines inputs (statuses.OutOfBounds word) = Refuses program inputs (OutOfBounds word)
+RefusesRun program lines inputs statuses.OutOfMemory = Unit {0}
+RefusesRun program lines inputs status = ⊥
