@@ -2,6 +2,7 @@
 use search_top::{Status, exit_of, line_of};
 use std::alloc::{AllocError, Global};
 use word_program::Place;
+use x86_instr::ListingFault;
 
 /// A status with the names in it as plain text.
 #[derive(Clone, Copy)]
@@ -13,6 +14,10 @@ pub enum Wanted {
     NotJson,
     Program(u8, Place),
     WriteFault(&'static str),
+    Text(u32),
+    TooManyLines,
+    NoReturn,
+    Stuck(u32),
     Inputs { given: u64, wanted: u64 },
     OutOfBounds(u32),
     OutOfMemory,
@@ -74,6 +79,30 @@ pub const UNSAID: End = End {
     line: "cannot write -",
 };
 
+pub const UNREAD_PROGRAM: End = End {
+    status: Wanted::ReadFault("p.json"),
+    exit: 3,
+    line: "cannot read p.json",
+};
+
+pub const UNREAD_ASM: End = End {
+    status: Wanted::ReadFault("p.s"),
+    exit: 3,
+    line: "cannot read p.s",
+};
+
+pub const NO_RETURN: End = End {
+    status: Wanted::NoReturn,
+    exit: 9,
+    line: "listing without its return",
+};
+
+pub const TOO_MANY_LINES: End = End {
+    status: Wanted::TooManyLines,
+    exit: 9,
+    line: "listing too long",
+};
+
 pub const NO_MEMORY: End = End {
     status: Wanted::OutOfMemory,
     exit: 17,
@@ -89,6 +118,10 @@ fn is(status: &Status, wanted: Wanted) -> bool {
         Status::NotJson => matches!(wanted, Wanted::NotJson),
         Status::Program(code, place) => is_program(*code, *place, wanted),
         Status::WriteFault(name) => is_write_fault(name.as_str(), wanted),
+        Status::Text(line) => is_text(*line, wanted),
+        Status::Listing(ListingFault::TooLong) => matches!(wanted, Wanted::TooManyLines),
+        Status::Listing(ListingFault::NoReturn) => matches!(wanted, Wanted::NoReturn),
+        Status::Stuck(line) => is_stuck(*line, wanted),
         Status::Inputs {
             given,
             wanted: most,
@@ -122,6 +155,20 @@ fn is_program(code: u8, place: Place, wanted: Wanted) -> bool {
 fn is_write_fault(name: &str, wanted: Wanted) -> bool {
     match wanted {
         Wanted::WriteFault(other) => name == other,
+        _ => false,
+    }
+}
+
+fn is_text(line: u32, wanted: Wanted) -> bool {
+    match wanted {
+        Wanted::Text(other) => line == other,
+        _ => false,
+    }
+}
+
+fn is_stuck(line: u32, wanted: Wanted) -> bool {
+    match wanted {
+        Wanted::Stuck(other) => line == other,
         _ => false,
     }
 }

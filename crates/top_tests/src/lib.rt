@@ -3,8 +3,18 @@
 #![tactic(auto)]
 
 #[cfg(test)]
+mod calls;
+#[cfg(test)]
+mod emulate;
+#[cfg(test)]
 mod ends;
 #[cfg(test)]
 mod eval;
 #[cfg(test)]
-mod search;
+mod programs;
+#[cfg(test)]
+mod publishing;
+#[cfg(test)]
+mod refusals;
+#[cfg(test)]
+mod show;
