@@ -1,5 +1,6 @@
 //! Documents, and what is read from their bytes.
 use fiat_json::{ReadFault, read_program};
+use std::alloc::{AllocError, Global};
 use std::test::Fail;
 use word_program::{Place, Section};
 
@@ -101,10 +102,52 @@ const MISSHAPEN: &[(&str, Section, u32)] = &[
     ),
 ];
 
+// A document of the form.
+const COPY: &str =
+    r#"{"operation":"copy1","returns":[{"name":"out1","datatype":"u64[1]"}],"arguments":[{"name":"arg1","datatype":"u64[1]"}],"body":[{"operation":"=","name":["out1[0]"],"arguments":["arg1[0]"]}]}"#;
+
+// Where the document has another form if the second text stands in the place of the first one, which is a part of it.
+// With the third text in that place it is accepted.
+const REPLACED: &[&str] = &[
+    r#"top 0 # "operation":"copy1" # "operation":1 # "operation":"g""#,
+    r#"top 0 # "operation":"copy1", # # "operations":1,"operation":"copy1","#,
+    r#"top 0 # "operation":"copy1" # "operation":"copy1","operation":null # "operation":null,"operation":"copy1""#,
+    r#"top 0 # "returns":[ # "return":[ # "more":[],"returns":["#,
+    r#"top 0 # [{"name":"out1","datatype":"u64[1]"}] # {"name":"out1","datatype":"u64[1]"} # [{"datatype":"u64[1]","name":"out1"}]"#,
+    r#"top 0 # "arguments":[{ # "argument":[{ # "more":{},"arguments":[{"#,
+    r#"top 0 # [{"name":"arg1","datatype":"u64[1]"}] # null # [{"datatype":"u64[2]","name":"arg1"}]"#,
+    r#"top 0 # "body":[ # "bodies":[ # "bodies":[],"body":["#,
+    r#"top 0 # "body":[ # "body":"","bodies":[ # "body":"","body":["#,
+    r#"returns 0 # {"name":"out1", # {"name":["out1"], # {"name":"\u006fut1","#,
+    r#"returns 0 # {"name":"out1", # { # {"name":"out2","name":"out1","#,
+    r#"returns 0 # {"name":"out1","datatype":"u64[1]"} # {"name":"out1"} # {"datatype":"u64[1]","name":"out1"}"#,
+    r#"returns 0 # {"name":"out1","datatype":"u64[1]"} # {"name":"out1","datatype":1} # {"name":"out1","datatype":null,"datatype":"u64[1]"}"#,
+    r#"returns 0 # {"name":"out1","datatype":"u64[1]"} # ["out1","u64[1]"] # {"name":"out1","datatype":"u64[1]","more":[]}"#,
+    r#"returns 0 # {"name":"out1", # {"name":"out1","lbound":null, # {"name":"out1","lbound":"0","#,
+    r#"returns 0 # {"name":"out1", # {"name":"out1","lbound":["0",1], # {"name":"out1","lbound":["0"],"#,
+    r#"returns 0 # {"name":"out1", # {"name":"out1","ubound":7, # {"name":"out1","ubound":"7","#,
+    r#"arguments 0 # {"name":"arg1", # {"name":null, # {"name":"arg1","name":"arg1","#,
+    r#"arguments 0 # {"name":"arg1","datatype":"u64[1]"} # {"name":"arg1","lbound":"0"} # {"name":"arg1","datatype":"u64[1]","lbound":"0"}"#,
+    r#"arguments 0 # {"name":"arg1", # {"name":"arg1","lbound":{}, # {"name":"arg1","lbound":["0x0"],"#,
+    r#"arguments 0 # {"name":"arg1", # {"name":"arg1","ubound":[7], # {"name":"arg1","ubound":["7"],"#,
+    r#"arguments 0 # {"name":"arg1", # {"name":"arg1","ubound":true, # {"name":"arg1","ubound":"007","#,
+    r#"arguments 1 # "u64[1]"}],"body" # "u64[1]"},[]],"body" # "u64[1]"},{"name":"arg2","datatype":"u1"}],"body""#,
+    r#"body 0 # "operation":"=" # "operation":["="] # "operation":"\u003d""#,
+    r#"body 0 # "operation":"=", # # "operation":"+","operation":"=","#,
+    r#"body 0 # ["out1[0]"] # "out1[0]" # ["\u006fut1[0]"]"#,
+    r#"body 0 # ["out1[0]"] # ["out1[0]",0] # ["out1[0]"],"names":[0]"#,
+    r#"body 0 # "name":["out1[0]"], # # "more":["out1[0]"],"name":["out1[0]"],"#,
+    r#"body 0 # ["arg1[0]"] # "arg1[0]" # ["0"]"#,
+    r#"body 0 # ["arg1[0]"] # [0] # ["0"]"#,
+    r#"body 0 # ,"arguments":["arg1[0]"] # # ,"arguments":null,"arguments":["arg1[0]"]"#,
+    r#"body 1 # ["arg1[0]"]} # ["arg1[0]"]},7 # ["arg1[0]"]},{"operation":"=","name":["x"],"arguments":["1"]}"#,
+    r#"body 2 # ["arg1[0]"]} # ["arg1[0]"]},{"operation":"=","name":["x"],"arguments":["1"]},{} # ["arg1[0]"]},{"operation":"=","name":["x"],"arguments":["1"]}"#,
+];
+
 // The same program, spelled in other ways: the order of the keys, keys that mean nothing, a key that stands
 // twice, and bounds.
 const COPIES: &[&str] = &[
-    r#"{"operation":"copy1","returns":[{"name":"out1","datatype":"u64[1]"}],"arguments":[{"name":"arg1","datatype":"u64[1]"}],"body":[{"operation":"=","name":["out1[0]"],"arguments":["arg1[0]"]}]}"#,
+    COPY,
     r#" { "body" : [ { "arguments" : ["arg1[0]"], "name" : ["out1[0]"], "operation" : "=" } ],
       "arguments" : [ { "datatype" : "u64[1]", "name" : "arg1" } ],
       "returns" : [ { "datatype" : "u64[1]", "name" : "out1" } ], "operation" : "copy1" }
@@ -144,6 +187,66 @@ fn documents_of_another_form(rt: HostRuntime) {
             "{document}"
         );
     }
+}
+
+// The document with another text in the place of a part of it.
+fn replaced(alloc: Global, part: &str, other: &str) -> Result<String, AllocError> {
+    match COPY.split_once(part) {
+        Some((before, after)) => format!(in alloc; "{before}{other}{after}"),
+        None => String::from_str(alloc, "the document has no such part"),
+    }
+}
+
+// The fault of a document, or that there is none.
+fn answer(alloc: Global, document: &str) -> Result<String, AllocError> {
+    match read_program(alloc, document.as_bytes()) {
+        Ok(_) => String::from_str(alloc, "accepted"),
+        Err(ReadFault::Program { code, place }) => {
+            let (section, item, inner) = (name_of(place.section), place.item, place.inner);
+            format!(in alloc; "P{code:02} {section} {item} {inner}")
+        }
+        Err(ReadFault::NotJson) => String::from_str(alloc, "not JSON"),
+        Err(ReadFault::Memory) => String::from_str(alloc, "no memory"),
+    }
+}
+
+fn name_of(section: Section) -> &'static str {
+    match section {
+        Section::Top => "top",
+        Section::Returns => "returns",
+        Section::Arguments => "arguments",
+        Section::Body => "body",
+    }
+}
+
+fn cut(text: &str) -> (&str, &str) {
+    match text.split_once('#') {
+        Some((before, after)) => (before.trim(), after.trim()),
+        None => (text.trim(), ""),
+    }
+}
+
+#[test]
+fn one_part_of_another_form(rt: HostRuntime) -> Result<(), Fail> {
+    for row in REPLACED {
+        let (place, rest) = cut(row);
+        let (part, rest) = cut(rest);
+        let (faulty, accepted) = cut(rest);
+        let fault = format!(in rt.alloc(); "P01 {place} 0")?;
+        let document = replaced(rt.alloc(), part, faulty)?;
+        assert_eq!(rt;
+            answer(rt.alloc(), document.as_str())?.as_str(),
+            fault.as_str(),
+            "{row}"
+        );
+        let document = replaced(rt.alloc(), part, accepted)?;
+        assert_eq!(rt;
+            answer(rt.alloc(), document.as_str())?.as_str(),
+            "accepted",
+            "{row}"
+        );
+    }
+    Ok(())
 }
 
 #[test]
