@@ -15,7 +15,7 @@ use Rattle.asm_tokens.specs.Tokens.{Token, token, goes_on}
 use Rattle.asm_tokens.proofs.Spell.{Fine, is_word}
 use Rattle.asm_tokens.proofs.Decimals.{written}
 use Rattle.asm_operands.specs.Names.{reg_text, byte_reg_text, mnemonic_text}
-use Rattle.asm_text.specs.Fits.{FitsSmall, FitsIndex, FitsMem, FitsRm, FitsSrc, FitsInstr}
+use Rattle.x86_instr.specs.Fits.{FitsSmall, FitsIndex, FitsMem, FitsRm, FitsSrc, FitsInstr}
 use Rattle.asm_text.proofs.NamesBack.{reg_word, byte_reg_word, mnemonic_word}
 use Rattle.asm_text.proofs.OperandsBack.{scale_small, count_small}
 use Rattle.asm_text.proofs.Spelled.{reg_tokens, byte_reg_tokens, number_tokens, comma_tokens, closing, disp_tokens, index_tokens, address_tokens, mem_tokens, rm_tokens, imm_tokens, src_tokens, operand_tokens, instr_tokens}

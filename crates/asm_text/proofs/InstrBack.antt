@@ -17,7 +17,7 @@ use Rattle.x86_instr.specs.Mnemonics.{mnemonic_of, bin_mnemonic, un_mnemonic, se
 use Rattle.x86_instr.specs.Ranges.{is_shift_count}
 use Rattle.asm_tokens.specs.Tokens.{Token}
 use Rattle.asm_text.specs.Rows.{operands, register_comma, destination, last_register, last_byte_register, last_memory, last_rm, last_src, last_count, last_wide, mov_to_register, store, mov, lea, bin, test_row, un, register_rm, adcx, adox, mulx, mul, imul, register_count, shl, shr, shrd, counted, shlx, shrx, set, movzx, cmov, plain, row, instr_in}
-use Rattle.asm_text.specs.Fits.{FitsMem, FitsRm, FitsSrc, FitsInstr}
+use Rattle.x86_instr.specs.Fits.{FitsMem, FitsRm, FitsSrc, FitsInstr}
 use Rattle.asm_text.proofs.NamesBack.{mnemonic_back}
 use Rattle.asm_text.proofs.OperandsBack.{register_at_back, byte_register_at_back, address_back, memory_back, memory_no_register, rm_back, number_no_rm, wide_back, src_back, count_back}
 use Rattle.asm_text.proofs.Spelled.{reg_tokens, byte_reg_tokens, number_tokens, comma_tokens, address_tokens, mem_tokens, rm_tokens, src_tokens, operand_tokens, instr_tokens}

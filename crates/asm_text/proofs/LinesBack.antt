@@ -16,7 +16,7 @@ use Rattle.asm_tokens.proofs.Decimals.{written}
 use Rattle.asm_tokens.proofs.Spell.{spell, Fine, is_plain, is_inline, tokens_spell, plain_spell, plain_inline, all_join}
 use Rattle.asm_tokens.proofs.LineText.{code_alone, comment_none, code_before, comment_behind}
 use Rattle.asm_text.specs.Assembly.{instr_text, owner_text}
-use Rattle.asm_text.specs.Fits.{FitsInstr, FitsOwner}
+use Rattle.x86_instr.specs.Fits.{FitsInstr, FitsOwner}
 use Rattle.asm_text.specs.Items.{code, owner_in, name_at, syntax_rest, is_syntax_line, is_text_line, global_in, is_colon, label_in, line_in, full_item, item_in}
 use Rattle.asm_text.proofs.NamesBack.{begins_dot, no_dot, mnemonic_no_dot}
 use Rattle.asm_text.proofs.InstrBack.{instr_back}

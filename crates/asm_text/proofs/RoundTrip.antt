@@ -10,7 +10,7 @@ use Rattle.asm_text.specs.Items.{syntax_line, text_line, global, label, code}
 use Rattle.asm_text.specs.Reading.{read_text}
 use Rattle.asm_text.specs.Texts.{AreItems, is_full, whole, Stands}
 use Rattle.asm_text.specs.Assembly.{line_text, header_text, text_of}
-use Rattle.asm_text.specs.Fits.{FitsLines}
+use Rattle.x86_instr.specs.Fits.{FitsLines}
 use Rattle.asm_text.proofs.Outcome.{stands_read}
 use Rattle.asm_text.proofs.LinesBack.{bare, line_back, line_inline}
 use Rattle.asm_text.proofs.HeaderBack.{label_back, label_inline, global_back, global_inline, syntax_back, text_back}

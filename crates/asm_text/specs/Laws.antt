@@ -5,7 +5,7 @@ use Rattle.x86_instr.specs.Listings.{NamedLines}
 use Rattle.asm_tokens.specs.Whole.{IsFirstFault}
 use Rattle.asm_text.specs.Reading.{read_text}
 use Rattle.asm_text.specs.Texts.{Stands}
-use Rattle.asm_text.specs.Fits.{FitsLines}
+use Rattle.x86_instr.specs.Fits.{FitsLines}
 use Rattle.asm_text.specs.Assembly.{text_of}
 use Rattle.word_text.specs.Texts.{is_identifier}
 

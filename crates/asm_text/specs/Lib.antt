@@ -6,4 +6,3 @@ pub mod Views
 pub mod Faults
 pub mod Texts
 pub mod Laws
-pub mod Fits

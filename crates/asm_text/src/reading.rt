@@ -33,12 +33,15 @@ struct Found {
 /// one, counted from 1: no text that stands for a listing begins with the lines up to it. Where the text ends before
 /// its fourth header line, the number is that of its lines plus 1. Otherwise `TooLong` comes exactly where there are
 /// more than 65,536 instructions, and otherwise `NoReturn` exactly where the last one is not the only `ret`. It takes
-/// time linear in the bytes, and memory for the listing alone.
+/// time linear in the bytes, and memory for the listing alone. There is never memory for 2^32 - 1 bytes or more,
+/// since their lines could not be counted.
 pub fn read(alloc: Global, bytes: &[u8]) -> Result<Listing, TextFault>
-    requires { length bytes.now < 2 ^ 32 - 1 }
     ensures ok { IfOk result (λ listing. Stands (lines bytes.now) listing) }
     ensures err { IfErr result (λ fault. Refuses (lines bytes.now) fault) }
 {
+    if bytes.len() >= u32::MAX as usize {
+        return Err(TextFault::Memory);
+    }
     read_listing(alloc, bytes)
 }
 

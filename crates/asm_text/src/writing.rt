@@ -1,7 +1,11 @@
-ghost use Rattle.std.specs.Prelude.{◌≡◌, ◌++◌, IfOk, OnOk, string_bytes, decimal};
+ghost use Rattle.std.specs.Prelude.{◌≡◌, ◌++◌, true, IfOk, OnOk, string_bytes, decimal};
 ghost use Rattle.std.specs.List.{flat_map};
 ghost use Rattle.asm_operands.specs.Names.{reg_text};
+ghost use Rattle.std.specs.Str.Lines.{lines};
+ghost use Rattle.word_text.specs.Texts.{is_identifier};
+ghost use Rattle.x86_instr.specs.Fits.{FitsLines};
 ghost use Rattle.asm_text.specs.Assembly as spec;
+ghost use Rattle.asm_text.specs.Texts.{Stands};
 
 use crate::write_operands::{
     push_first, push_first_mem, push_first_rm, push_next, push_next_address, push_next_number,
@@ -12,10 +16,20 @@ use itoa::Buffer;
 use std::alloc::{AllocError, Global};
 use x86_instr::{Instr, Line, Listing, Owner, Reg, Rm, mnemonic_of};
 
-/// The text of a listing: four header lines, and a line for each instruction. The one error is want of memory.
-#[tactic(auto, unfolding(crate::specs::Assembly::text_of))]
+/// The text of a listing: four header lines, and a line for each instruction. Where the name of the listing is
+/// an identifier, the text stands for the listing, and for no other one. The one error is want of memory.
 pub fn write(alloc: Global, listing: &Listing) -> Result<Vec<u8>, AllocError>
-    ensures { IfOk result (λ text. text.items ≡ spec.text_of listing.now) }
+    ensures text { IfOk result (λ text. text.items ≡ spec.text_of listing.now) }
+    ensures stands { IfOk result (λ text. is_identifier listing.entry.now.name ≡ true → Stands (lines text.items) listing.entry.now) }
+{
+    let text = text_of(alloc, listing)?;
+    Ok(text)
+}
+
+#[tactic(auto, unfolding(crate::specs::Assembly::text_of))]
+fn text_of(alloc: Global, listing: &Listing) -> Result<Vec<u8>, AllocError>
+    ensures text { IfOk result (λ text. text.items ≡ spec.text_of listing.now) }
+    ensures fits { OnOk result (FitsLines listing.now.lines) }
 {
     let mut text = String::new(alloc);
     push_header(&mut text, listing.name().as_str())?;

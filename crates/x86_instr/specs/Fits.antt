@@ -1,4 +1,5 @@
--- The ranges that the types of instructions keep.
+-- The ranges that the types of instructions and lines keep (Intel Software Developer's Manual, volume 2,
+-- section 2.2.1 on displacements and immediates at 64-bit operand size, beside the ranges of `Ranges`).
 use Rattle.std.specs.Prelude.{◌≡◌, ◌<◌, ◌^◌, ℕ, true, List, [], ◌∷◌, Option, Some, None, ℤ, pos, negsuc}
 use Rattle.x86_instr.specs.declared.operand.Index.{Index}
 use Rattle.x86_instr.specs.declared.operand.Mem.{Mem}

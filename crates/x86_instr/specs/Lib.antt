@@ -1,5 +1,6 @@
 pub mod Registers
 pub mod Ranges
+pub mod Fits
 pub mod Owned
 pub mod Mnemonics
 pub mod Listings

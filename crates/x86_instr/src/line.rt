@@ -1,4 +1,5 @@
 ghost use Rattle.std.specs.Prelude.{◌≡◌, [], ◌∷◌, ◌++◌, OnOk, OnErr};
+ghost use Rattle.x86_instr.specs.Fits.{FitsLines};
 
 use crate::instr::Instr;
 use crate::owner::Owner;
@@ -21,10 +22,14 @@ impl Model for Line {
 
     ghost view = { λ l. record { instr = l.instr; owner = l.owner } };
 
+    ghost use Rattle.x86_instr.specs.Fits.{FitsInstr, FitsOwner};
+
+    ghost invariant = { λ l. FitsInstr l.instr × FitsOwner l.owner };
+
     ghost inverse = { λ l. record { instr = l.instr; owner = l.owner } };
 }
 
-/// A list of lines. Contracts see the list.
+/// A list of lines, of which each fits its ranges. Contracts see the list.
 #[derive(Drop)]
 pub struct Lines {
     lines: Vec<Line>,
@@ -37,6 +42,10 @@ impl Model for Lines {
     ghost Value = { List Line };
 
     ghost view = { λ l. l.lines.items };
+
+    ghost use Rattle.x86_instr.specs.Fits.{FitsLines};
+
+    ghost invariant = { λ l. FitsLines l.lines.items };
 }
 
 impl Lines {
@@ -50,6 +59,7 @@ impl Lines {
     }
 
     /// Puts a line at the end. The one error is want of memory, which leaves the list as it was.
+    #[tactic(auto, using(crate::proofs::FitsLemmas::fits_more))]
     pub fn push(&mut self, line: Line) -> Result<(), AllocError>
         ensures ok { OnOk result (self.new ≡ self.old ++ line ∷ []) }
         ensures err { OnErr result (self.new ≡ self.old) }
@@ -60,7 +70,8 @@ impl Lines {
 
     /// The lines in order.
     pub fn items(&self) -> &[Line]
-        ensures { result.now ≡ self.now }
+        ensures items { result.now ≡ self.now }
+        ensures fits { FitsLines self.now }
     {
         self.lines.as_slice()
     }

@@ -1,4 +1,5 @@
 ghost use Rattle.std.specs.Prelude.{◌≡◌, ◌≤◌, true, length, IfOk};
+ghost use Rattle.x86_instr.specs.Fits.{FitsLines};
 ghost use Rattle.x86_instr.specs.Listings.{ends_at_ret, listing_of};
 ghost use Rattle.x86_instr.specs.Frame as spec;
 
@@ -32,13 +33,14 @@ pub struct Listing {
 
 impl Model for Listing {
     ghost use Rattle.std.specs.Prelude.{◌≡◌, ◌≤◌, true, length};
+    ghost use Rattle.x86_instr.specs.Fits.{FitsLines};
     ghost use Rattle.x86_instr.specs.Listings.{NamedLines, ends_at_ret};
 
     ghost Value = { NamedLines };
 
     ghost view = { λ l. record { name = l.name; lines = l.lines } };
 
-    ghost invariant = { λ l. (length l.lines ≤ 65536) × (ends_at_ret l.lines ≡ true) };
+    ghost invariant = { λ l. (length l.lines ≤ 65536) × (ends_at_ret l.lines ≡ true) × FitsLines l.lines };
 }
 
 impl Listing {
@@ -70,6 +72,7 @@ impl Listing {
         ensures lines { result.now ≡ self.now.lines }
         ensures short { length self.now.lines ≤ 65536 }
         ensures ends { ends_at_ret self.now.lines ≡ true }
+        ensures fits { FitsLines self.now.lines }
     {
         self.lines.items()
     }
