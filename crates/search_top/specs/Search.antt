@@ -1,6 +1,7 @@
 -- What `search` promises, by cases of its status. A shelf may tell what a file has, or what was said, or
 -- not: what it does not tell is None, and no promise speaks of it.
 use Rattle.std.specs.Prelude.{◌≡◌, ℕ, ◌+◌, ◌-◌, ◌^◌, ◌≤◌, ◌⊎◌, min, List, length, codes, decimal, ◌++◌, Option, None, IfSome, IsSome}
+use Rattle.std.specs.Str.Lines.{lines}
 use Rattle.io_ports.specs.Shelf.{Stays, Grows, GrowsByPart}
 use Rattle.word_text.specs.declared.fault.Place.{Place}
 use Rattle.word_text.specs.declared.fault.Section.TheVariants.{Top}
@@ -16,7 +17,9 @@ use Rattle.search_top.specs.declared.status.Status.TheVariants as statuses
 use Rattle.search_top.specs.Words.{Files, files_of}
 use Rattle.search_top.specs.Plain.{plain_lines, plain_listing}
 use Rattle.search_top.specs.Cost.{cost_of}
+use Rattle.x86_instr.specs.Listings.{NamedLines}
 use Rattle.asm_text.specs.Assembly.{text_of}
+use Rattle.asm_text.specs.Texts.{Stands}
 
 -- how many bytes the file of a program may have
 abbrev pub limit : ℕ
@@ -29,6 +32,10 @@ raised_by k n = min (n + k) (2 ^ 64 - 1)
 -- what is said of a program: the cost of its plain listing
 abbrev pub opening_text : Source → List ℕ
 opening_text program = codes "opening " ++ (decimal (cost_of (plain_lines program)) ++ codes "\n")
+
+-- the text of the listing stands for it
+abbrev pub ReadsBack : NamedLines → Type 0
+ReadsBack listing = Stands (lines (text_of listing)) listing
 
 -- the bytes are a program that `search` takes: a copy of one word
 pub record IsSearched (bytes : List ℕ) (program : Source) : Type 0 where
@@ -52,10 +59,11 @@ abbrev pub HasFault : List ℕ → ℕ → Place → Type 0
 HasFault bytes code place = Breaks bytes code place ⊎ IsNotSearched bytes code place
 
 -- The program that was read has a plain listing that is correct, and ASM has its text, as far as the shelf
--- tells it after.
+-- tells it after. The text reads back as the listing.
 pub record Publishes (source asm : Option (List ℕ)) (program : Source) : Type 0 where
   pub read : IsRead source program
   pub written : IfSome asm (λ bytes. bytes ≡ text_of (plain_listing program))
+  pub reads_back : ReadsBack (plain_listing program)
   pub correct : IsCorrect program (plain_lines program)
 
 -- ---- cases of words and statuses
@@ -124,6 +132,7 @@ pub record IsOpening (bytes text line : List ℕ) : Type 0 where
   pub read : IsSearched bytes program
   pub spells : text ≡ text_of (plain_listing program)
   pub tells : line ≡ opening_text program
+  pub reads_back : ReadsBack (plain_listing program)
   pub correct : IsCorrect program (plain_lines program)
 
 -- Ok: ASM is published, and the opening cost was said

@@ -5,7 +5,7 @@ ghost use Rattle.word_program.specs.Walk.{place_in};
 ghost use Rattle.x86_meaning.specs.Correct.{IsCorrect};
 ghost use Rattle.search_top.specs.Plain.{plain_lines, plain_listing};
 ghost use Rattle.asm_text.specs.Assembly.{text_of};
-ghost use Rattle.search_top.specs.Search.{IsOpening, FailsToOpen, opening_text};
+ghost use Rattle.search_top.specs.Search.{IsOpening, FailsToOpen, ReadsBack, opening_text};
 
 use crate::{cost, plain};
 use asm_text::write;
@@ -58,6 +58,7 @@ fn plain_opening(alloc: Global, program: &Program) -> Result<Opening, AllocError
     requires { IsCopy program.now }
     ensures text { IfOk result (λ o. o.text.items ≡ text_of (plain_listing program.now)) }
     ensures line { IfOk result (λ o. string_bytes o.line ≡ opening_text program.now) }
+    ensures reads_back { IfOk result (λ o. ReadsBack (plain_listing program.now)) }
     ensures correct { IfOk result (λ o. IsCorrect program.now (plain_lines program.now)) }
 {
     let listing = plain::plain_listing(alloc, program)?;

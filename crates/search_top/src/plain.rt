@@ -1,4 +1,5 @@
-ghost use Rattle.std.specs.Prelude.{◌≡◌, ℕ, ◌+◌, ◌*◌, ◌^◌, ◌<◌, ◌≤◌, [], ◌∷◌, ◌++◌, length, pos, IfOk, OnOk};
+ghost use Rattle.std.specs.Prelude.{◌≡◌, ℕ, ◌+◌, ◌*◌, ◌^◌, ◌<◌, ◌≤◌, [], ◌∷◌, ◌++◌, length, pos, true, IfOk, OnOk};
+ghost use Rattle.word_text.specs.Texts.{is_identifier};
 ghost use Rattle.word_program.specs.Copy.{IsCopy};
 ghost use Rattle.x86_meaning.specs.Correct.{IsCorrect};
 ghost use Rattle.search_top.specs.Plain as spec;
@@ -15,6 +16,7 @@ pub fn plain_listing(alloc: Global, program: &Program) -> Result<Listing, AllocE
     requires { IsCopy program.now }
     ensures listing { IfOk result (λ l. l ≡ spec.plain_listing program.now) }
     ensures correct { IfOk result (λ l. IsCorrect program.now l.lines) }
+    ensures named { IfOk result (λ l. is_identifier l.name ≡ true) }
     ensures short { IfOk result (λ l. length l.lines ≤ 65536) }
 {
     let lines = plain_lines(alloc, program.params(), program.ops())?;
