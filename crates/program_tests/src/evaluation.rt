@@ -164,36 +164,36 @@ fn copies_are_told(rt: HostRuntime) -> Result<(), Fail> {
 }
 
 const CHAIN: &str =
-    "f|o u64[2];p u64[1]|a u64[2] - 5/6;b u64;c u1;d u64|addcarryx o[0],x c,b,a[0];<< o[1] b,3;= p[0] x";
+    "f|o u64[2];p u64[1]|a u64[2] - 5/6;b u64;c u1;d u64|addcarryx o[0],x c,b,a[0];<< o[1] b,3;= p[0] x;~ _ b";
 
 // Spellings of that program: other names of results, and other spellings of bounds and literals.
-const SPELLINGS: &[&str] = &[
-    "f|o u64[2];p u64[1]|a u64[2] - 5/6;b u64;c u1;d u64|addcarryx o[0],y c,b,a[0];<< o[1] b,3;= p[0] y",
-    "f|o u64[2];p u64[1] 0|a u64[2] 0/0 0x5/06;b u64;c u64 - 1;d u64|addcarryx o[0],x c,b,a[0];<< o[1] b,0x3;= p[0] x",
-];
+const SPELLINGS: &str = "\
+f|o u64[2];p u64[1]|a u64[2] - 5/6;b u64;c u1;d u64|addcarryx o[0],y c,b,a[0];<< o[1] b,3;= p[0] y;~ _ b
+f|o u64[2];p u64[1] 0|a u64[2] 0/0 0x5/06;b u64;c u64 - 1;d u64|addcarryx o[0],x c,b,a[0];<< o[1] b,0x3;= p[0] x;~ _ b
+";
 
-// Programs that differ from it in one part each.
-const DIFFERENT: &[&str] = &[
-    "g|o u64[2];p u64[1]|a u64[2] - 5/6;b u64;c u1;d u64|addcarryx o[0],x c,b,a[0];<< o[1] b,3;= p[0] x",
-    "f|o u64[2];p u64[1]|a u64[2] - 5/6;b u64;c u1;e u64|addcarryx o[0],x c,b,a[0];<< o[1] b,3;= p[0] x",
-    "f|o u64[2];p u64[1]|a u64[2] - 5/6;b u64;c u1;d u64[1]|addcarryx o[0],x c,b,a[0];<< o[1] b,3;= p[0] x",
-    "f|o u64[2];p u64[1]|a u64[2] - 5/6;b u64;c u1;d u64 1|addcarryx o[0],x c,b,a[0];<< o[1] b,3;= p[0] x",
-    "f|o u64[2];p u64[1]|a u64[2] - 5/7;b u64;c u1;d u64|addcarryx o[0],x c,b,a[0];<< o[1] b,3;= p[0] x",
-    "f|o u64[2];p u64[1]|a u64[3] - 5/6/7;b u64;c u1;d u64|addcarryx o[0],x c,b,a[0];<< o[1] b,3;= p[0] x",
-    "f|o u64[2];p u64[1]|a u64[2] - 5/6;b u64;c u1|addcarryx o[0],x c,b,a[0];<< o[1] b,3;= p[0] x",
-    "f|o u64[2];p u64[1]|a u64[2] - 5/6;b u64;c u1;d u64|subborrowx o[0],x c,b,a[0];<< o[1] b,3;= p[0] x",
-    "f|o u64[2];p u64[1]|a u64[2] - 5/6;b u64;c u1;d u64|addcarryx o[0],x c,b,a[0];>> o[1] b,3;= p[0] x",
-    "f|o u64[2];p u64[1]|a u64[2] - 5/6;b u64;c u1;d u64|addcarryx o[0],x c,b,a[0];<< o[1] b,4;= p[0] x",
-    "f|o u64[2];p u64[1]|a u64[2] - 5/6;b u64;c u1;d u64|addcarryx o[0],x c,b,a[1];<< o[1] b,3;= p[0] x",
-    "f|o u64[2];p u64[1]|a u64[2] - 5/6;b u64;c u1;d u64|addcarryx o[0],x c,d,a[0];<< o[1] b,3;= p[0] x",
-    "f|o u64[2];p u64[1]|a u64[2] - 5/6;b u64;c u1;d u64|addcarryx o[0],x 0,b,a[0];<< o[1] b,3;= p[0] x",
-    "f|o u64[2];p u64[1]|a u64[2] - 5/6;b u64;c u1;d u64|addcarryx o[0],x c,b,a[0];<< o[1] x,3;= p[0] x",
-    "f|o u64[2];p u64[1]|a u64[2] - 5/6;b u64;c u1;d u64|addcarryx o[0],_ c,b,a[0];<< o[1] b,3;= p[0] 0",
-    "f|o u64[2];p u64[1]|a u64[2] - 5/6;b u64;c u1;d u64|addcarryx o[1],x c,b,a[0];<< o[0] b,3;= p[0] x",
-    "f|o u64[2];p u64[1]|a u64[2] - 5/6;b u64;c u1;d u64|addcarryx p[0],x c,b,a[0];<< o[1] b,3;= o[0] x",
-    "f|o u64[2];p u64[1]|a u64[2] - 5/6;b u64;c u1;d u64|addcarryx o[0],x c,b,a[0];<< o[1] b,3;= p[0] x;= y b",
-    "f|o u64[2];p u64[1]|a u64[2] - 5/6;b u64;c u1;d u64|addcarryx o[0],x c,b,a[0];= p[0] x;<< o[1] b,3",
-];
+// Programs that differ from it, each in as little as can be.
+const DIFFERENT: &str = "\
+g|o u64[2];p u64[1]|a u64[2] - 5/6;b u64;c u1;d u64|addcarryx o[0],x c,b,a[0];<< o[1] b,3;= p[0] x;~ _ b
+f|o u64[2];p u64[1]|a u64[2] - 5/6;b u64;c u1;e u64|addcarryx o[0],x c,b,a[0];<< o[1] b,3;= p[0] x;~ _ b
+f|o u64[2];p u64[1]|a u64[2] - 5/6;b u64;c u1;d u64[1]|addcarryx o[0],x c,b,a[0];<< o[1] b,3;= p[0] x;~ _ b
+f|o u64[2];p u64[1]|a u64[2] - 5/6;b u64;c u1;d u64 1|addcarryx o[0],x c,b,a[0];<< o[1] b,3;= p[0] x;~ _ b
+f|o u64[2];p u64[1]|a u64[2] - 5/7;b u64;c u1;d u64|addcarryx o[0],x c,b,a[0];<< o[1] b,3;= p[0] x;~ _ b
+f|o u64[2];p u64[1]|a u64[3] - 5/6/7;b u64;c u1;d u64|addcarryx o[0],x c,b,a[0];<< o[1] b,3;= p[0] x;~ _ b
+f|o u64[2];p u64[1]|a u64[2] - 5/6;b u64;c u1|addcarryx o[0],x c,b,a[0];<< o[1] b,3;= p[0] x;~ _ b
+f|o u64[2];p u64[1]|a u64[2] - 5/6;b u64;c u1;d u64|subborrowx o[0],x c,b,a[0];<< o[1] b,3;= p[0] x;~ _ b
+f|o u64[2];p u64[1]|a u64[2] - 5/6;b u64;c u1;d u64|addcarryx o[0],x c,b,a[0];>> o[1] b,3;= p[0] x;~ _ b
+f|o u64[2];p u64[1]|a u64[2] - 5/6;b u64;c u1;d u64|addcarryx o[0],x c,b,a[0];<< o[1] b,4;= p[0] x;~ _ b
+f|o u64[2];p u64[1]|a u64[2] - 5/6;b u64;c u1;d u64|addcarryx o[0],x c,b,a[1];<< o[1] b,3;= p[0] x;~ _ b
+f|o u64[2];p u64[1]|a u64[2] - 5/6;b u64;c u1;d u64|addcarryx o[0],x c,d,a[0];<< o[1] b,3;= p[0] x;~ _ b
+f|o u64[2];p u64[1]|a u64[2] - 5/6;b u64;c u1;d u64|addcarryx o[0],x 0,b,a[0];<< o[1] b,3;= p[0] x;~ _ b
+f|o u64[2];p u64[1]|a u64[2] - 5/6;b u64;c u1;d u64|addcarryx o[0],x c,b,a[0];<< o[1] x,3;= p[0] x;~ _ b
+f|o u64[2];p u64[1]|a u64[2] - 5/6;b u64;c u1;d u64|addcarryx o[0],x c,b,a[0];<< o[1] b,3;= p[0] x;~ y b
+f|o u64[2];p u64[1]|a u64[2] - 5/6;b u64;c u1;d u64|addcarryx o[1],x c,b,a[0];<< o[0] b,3;= p[0] x;~ _ b
+f|o u64[2];p u64[1]|a u64[2] - 5/6;b u64;c u1;d u64|addcarryx p[0],x c,b,a[0];<< o[1] b,3;= o[0] x;~ _ b
+f|o u64[2];p u64[1]|a u64[2] - 5/6;b u64;c u1;d u64|addcarryx o[0],x c,b,a[0];<< o[1] b,3;= p[0] x;= y b;~ _ b
+f|o u64[2];p u64[1]|a u64[2] - 5/6;b u64;c u1;d u64|addcarryx o[0],x c,b,a[0];= p[0] x;<< o[1] b,3;~ _ b
+";
 
 fn program(alloc: Global, row: &str) -> Result<Program, ProgramFault> {
     match parts(alloc, row) {
@@ -206,11 +206,11 @@ fn program(alloc: Global, row: &str) -> Result<Program, ProgramFault> {
 fn equal_programs_are_the_same(rt: HostRuntime) -> Result<(), Fail> {
     let chain = program(rt.alloc(), CHAIN)?;
     assert!(rt; chain.same(&chain));
-    for row in SPELLINGS {
+    for row in SPELLINGS.lines() {
         let other = program(rt.alloc(), row)?;
         assert!(rt; chain.same(&other) && other.same(&chain), "{row}");
     }
-    for row in DIFFERENT {
+    for row in DIFFERENT.lines() {
         let other = program(rt.alloc(), row)?;
         assert!(rt; !chain.same(&other) && !other.same(&chain), "{row}");
     }
