@@ -1,3 +1,3 @@
-pub mod TurnLemmas
+pub mod TransposeLemmas
 pub mod NeedLemmas
 pub mod OrderLemmas

@@ -14,8 +14,8 @@ use Rattle.word_program.specs.declared.operation.Operand.{Operand}
 use Rattle.word_program.specs.declared.operation.Operand.TheVariants as operands
 use Rattle.word_program.specs.Program.{Source}
 use Rattle.word_program.specs.Values.{targets_of}
-use Rattle.dependency_graph.specs.Needs.{first_value, operands_of, is_value_in, is_needed, all_ops, needs_of, users_of, graph_of}
-use Rattle.dependency_graph.specs.Transposed.{makers_from, makers_of, maker_of, reads_of, has, holders, transposed}
+use Rattle.dependency_graph.specs.Needs.{first_value, operands_of, is_value_in, is_needed, all_ops, needs_of, users_of, graph_of, has}
+use Rattle.dependency_graph.specs.Transposed.{makers_from, makers_of, maker_of, reads_of, holders, transposed}
 
 -- ---- the operation that defines a value
 
@@ -236,26 +236,26 @@ pub has_users : (program : Source) (op other : ℕ) → has op (users_of program
 unfolding users_of
 has_users program op other = kept (λ user. is_needed program user other) (length program.ops) op (needs_within program op other)
 
--- ---- the lists turned round
+-- ---- the lists transposed
 
 map_same : {X Y : Type 0} (f g : X → Y) → ((x : X) → f x ≡ g x) → (xs : List X) → map f xs ≡ map g xs
 map_same f g same [] = refl
 map_same f g same (x ∷ xs) = ap (λ y. y ∷ map f xs) (same x) ∙ ap (λ ys. g x ∷ ys) (map_same f g same xs)
 
--- lists of which each holds exactly the numbers that a test says, turned round
-turned_by : (lists : List (List ℕ)) (test : ℕ → ℕ → Bool) (n : ℕ) → length lists ≡ n → ((place m : ℕ) → has m (slice_index_or lists place []) ≡ test place m) → transposed lists ≡ map (λ m. filter (λ place. test place m) (range_with_len 0 n)) (range_with_len 0 n)
+-- lists of which each holds exactly the numbers that a test says, transposed
+transposed_by : (lists : List (List ℕ)) (test : ℕ → ℕ → Bool) (n : ℕ) → length lists ≡ n → ((place m : ℕ) → has m (slice_index_or lists place []) ≡ test place m) → transposed lists ≡ map (λ m. filter (λ place. test place m) (range_with_len 0 n)) (range_with_len 0 n)
 unfolding transposed
-turned_by lists test n count says =
+transposed_by lists test n count says =
     map_same (holders lists) (λ m. filter (λ place. test place m) (range_with_len 0 n)) (λ m. ap (λ k. filter (λ place. has m (slice_index_or lists place [])) (range_with_len 0 k)) count ∙ filter_agree _ _ (λ place. says place m) (range_with_len 0 n)) (range_with_len 0 (length lists))
     ∙ ap (λ k. map (λ m. filter (λ place. test place m) (range_with_len 0 n)) (range_with_len 0 k)) count
 
 pub reads_count : (program : Source) → length (all_reads program) ≡ length program.ops
 reads_count program = length-map program.ops (reads_of (makers_of program.ops))
 
--- the lists of what is read, turned round, are the users
-pub turned_reads : (program : Source) → transposed (all_reads program) ≡ map (users_of program) (all_ops program)
+-- the lists of what is read, transposed, are the users
+pub transposed_reads : (program : Source) → transposed (all_reads program) ≡ map (users_of program) (all_ops program)
 unfolding users_of
-turned_reads program = turned_by (all_reads program) (is_needed program) (length program.ops) (reads_count program) (reads_need program)
+transposed_reads program = transposed_by (all_reads program) (is_needed program) (length program.ops) (reads_count program) (reads_need program)
 
 pub users_count : (program : Source) → length (map (users_of program) (all_ops program)) ≡ length program.ops
 users_count program = length-map-range_with_len (users_of program) 0 (length program.ops)
@@ -276,16 +276,16 @@ users_say program op user = on (nat_lt op (length program.ops)) refl
         let out : length program.ops ≤ op = grind (arith, nat_tests, e) in
         ap (has user) (get_past (map (users_of program) (all_ops program)) op [] (omega (arith, out, users_count program))) ∙ sym (needed_within program user op out)
 
--- the users, turned round, are the needs
-pub turned_users : (program : Source) → transposed (map (users_of program) (all_ops program)) ≡ map (needs_of program) (all_ops program)
+-- the users, transposed, are the needs
+pub transposed_users : (program : Source) → transposed (map (users_of program) (all_ops program)) ≡ map (needs_of program) (all_ops program)
 unfolding needs_of
-turned_users program = turned_by (map (users_of program) (all_ops program)) (λ op user. is_needed program user op) (length program.ops) (users_count program) (users_say program)
+transposed_users program = transposed_by (map (users_of program) (all_ops program)) (λ op user. is_needed program user op) (length program.ops) (users_count program) (users_say program)
 
--- the graph is the users, and they turned round
+-- the graph is the users, and they transposed
 pub graph_is : (program : Source) (needs users : List (List ℕ)) → users ≡ transposed (all_reads program) → needs ≡ transposed users → record { needs = needs; users = users } ≡ graph_of program
 graph_is program needs users u n =
-    let users_are = u ∙ turned_reads program in
-    let needs_are = n ∙ ap transposed users_are ∙ turned_users program in
+    let users_are = u ∙ transposed_reads program in
+    let needs_are = n ∙ ap transposed users_are ∙ transposed_users program in
     ap (λ (l : List (List ℕ)). record { needs = l; users = users }) needs_are ∙ ap (λ (l : List (List ℕ)). record { needs = map (needs_of program) (all_ops program); users = l }) users_are
 
 -- ---- the numbers of the lists are those of operations

@@ -18,8 +18,7 @@ use Rattle.word_program.specs.declared.operation.Target.{Target}
 use Rattle.word_program.specs.Program.{Source}
 use Rattle.word_program.specs.Values.{targets_of, op_bits, is_bit_by}
 use Rattle.word_program.specs.Accepted.{IsOperand, IsOp, AreOps, IsAccepted}
-use Rattle.dependency_graph.specs.Needs.{Links, IsGraph, first_value, operands_of, is_value_in, defines, is_needed, all_ops, needs_of, users_of, graph_of}
-use Rattle.dependency_graph.specs.Transposed.{has}
+use Rattle.dependency_graph.specs.Needs.{Links, IsGraph, first_value, operands_of, is_value_in, defines, is_needed, all_ops, needs_of, users_of, graph_of, has}
 use Rattle.dependency_graph.proofs.NeedLemmas.{results, results_more, take_past, no_number, get_past, needs_within, users_count, has_needs, has_users}
 
 -- ---- the operands of an operation are values before its own

@@ -1,6 +1,6 @@
 -- Which operation needs which. A program is in single assignment form: each value is a result of one operation.
 -- An operation needs those of which a result is one of its operands.
-use Rattle.std.specs.Prelude.{◌≡◌, ℕ, ◌+◌, Bool, false, ◌&&◌, nat_lt, nat_le, List, [], length, map, take, slice_get}
+use Rattle.std.specs.Prelude.{◌≡◌, ℕ, ◌+◌, Bool, false, ◌&&◌, ◌==◌, nat_lt, nat_le, List, [], length, map, take, slice_get}
 use Rattle.std.specs.List.{filter, list_any, range_with_len}
 use Rattle.std.specs.Option.{option_map_or}
 use Rattle.word_program.specs.declared.operation.Operand.{Operand}
@@ -46,6 +46,10 @@ needs_of program op = filter (is_needed program op) (all_ops program)
 -- the operations that need an operation, ascending, each once
 unfoldable pub users_of : Source → ℕ → List ℕ
 users_of program op = filter (λ user. is_needed program user op) (all_ops program)
+
+-- the number is in the list
+abbrev pub has : ℕ → List ℕ → Bool
+has number list = list_any (λ other. other == number) list
 
 -- of each operation, those that it needs and those that need it
 pub record Links : Type 0 where

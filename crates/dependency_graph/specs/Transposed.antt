@@ -1,12 +1,14 @@
--- How the graph is made: of each operation those that define its operands, in the order of the operands, and then
--- the lists turned round, twice. A list of lists of numbers turned round is a list of lists again: in the one with
--- the number m are the numbers of the lists that hold m, ascending and each once (the transposed relation).
+-- How the graph is made: of each operation those that define its operands, in the order of the operands. These
+-- lists are transposed, which gives the users, and the users are transposed, which gives the needs. Transposed lists
+-- are those of the transposed relation: the one with the number m has the numbers of the lists that hold m, ascending
+-- and each once.
 use Rattle.std.specs.Prelude.{ℕ, ◌+◌, ◌-◌, Bool, false, ◌==◌, List, [], ◌∷◌, ◌++◌, length, map, replicate, fold, option_to_list, slice_get, slice_index_or, slice_set, if◌then◌else◌}
-use Rattle.std.specs.List.{flat_map, list_any, filter, range_with_len}
+use Rattle.std.specs.List.{flat_map, filter, range_with_len}
 use Rattle.std.specs.Option.{option_map_or}
 use Rattle.word_program.specs.declared.operation.Op.{Op}
 use Rattle.word_program.specs.declared.operation.Operand.{Operand}
 use Rattle.word_program.specs.declared.operation.Operand.TheVariants as operands
+use Rattle.dependency_graph.specs.Needs.{has}
 
 -- the operation that defines each value of these operations, of which the first has this number
 abbrev pub makers_from : ℕ → List Op → List ℕ
@@ -27,18 +29,15 @@ maker_of makers (operands.Value number) = option_to_list (slice_get makers numbe
 abbrev pub reads_of : List ℕ → Op → List ℕ
 reads_of makers op = flat_map (maker_of makers) op.args
 
-abbrev pub has : ℕ → List ℕ → Bool
-has number list = list_any (λ other. other == number) list
-
 -- the numbers of the lists that hold this number
 abbrev pub holders : List (List ℕ) → ℕ → List ℕ
 holders lists number = filter (λ place. has number (slice_index_or lists place [])) (range_with_len 0 (length lists))
 
--- the lists turned round
+-- the lists transposed
 unfoldable pub transposed : List (List ℕ) → List (List ℕ)
 transposed lists = map (holders lists) (range_with_len 0 (length lists))
 
--- ---- turning round, list by list
+-- ---- transposing, list by list
 
 -- the list ends with this number
 abbrev pub ends_with : ℕ → List ℕ → Bool

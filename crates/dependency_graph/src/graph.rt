@@ -3,7 +3,7 @@ ghost use Rattle.std.specs.List.{AllByRecursion};
 ghost use Rattle.dependency_graph.specs.Needs.{graph_of};
 
 use crate::operands::{makers_of, reads_of};
-use crate::turned::{Numbers, transposed};
+use crate::transpose::{Numbers, transposed};
 use std::alloc::{AllocError, Global};
 use std::marker::Model;
 use word_program::Program;

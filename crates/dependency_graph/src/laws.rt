@@ -4,8 +4,7 @@ ghost use Rattle.std.specs.Prelude.{◌≡◌, ℕ, ◌<◌, ◌↔◌, true, le
 ghost use Rattle.std.specs.List.{list_any};
 ghost use Rattle.word_program.specs.Program.{Source};
 ghost use Rattle.word_program.specs.Accepted.{IsAccepted};
-ghost use Rattle.dependency_graph.specs.Needs.{defines, graph_of, is_needed, needs_of, users_of};
-ghost use Rattle.dependency_graph.specs.Transposed.{has};
+ghost use Rattle.dependency_graph.specs.Needs.{defines, graph_of, has, is_needed, needs_of, users_of};
 
 /// The graph of a program has for each operation its needs and its users.
 pub fn graph_has_needs_and_users()

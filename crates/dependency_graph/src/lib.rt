@@ -8,12 +8,12 @@
 mod graph;
 mod laws;
 mod operands;
-mod single;
-mod turned;
+mod transpose;
+mod values;
 
 pub use graph::Graph;
 pub use laws::{
     graph_has_needs_and_users, needed_ops_are_earlier, needs_and_users_are_converse,
     needs_are_the_needed_ops, values_are_defined_once,
 };
-pub use single::{defining_op, first_value, reads_value_in};
+pub use values::{defining_op, first_value, reads_value_in};

@@ -2,7 +2,7 @@ ghost use Rattle.std.specs.Prelude.{◌≡◌, ◌≤◌, ◌++◌, length, map,
 ghost use Rattle.std.specs.List.{flat_map};
 ghost use Rattle.dependency_graph.specs.Transposed as spec;
 
-use crate::turned::Numbers;
+use crate::transpose::Numbers;
 use std::alloc::{AllocError, Global};
 use word_program::{Op, Operand};
 

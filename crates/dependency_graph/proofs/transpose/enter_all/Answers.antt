@@ -1,8 +1,8 @@
 -- After a list, the lists are as the lists that are left want them.
 use Rattle.std.proofs.Common.{◌∙◌, ap, arith}
 use Rattle.dependency_graph.specs.Transposed.{entered}
-use Rattle.dependency_graph.proofs.TurnLemmas.{enter_all_kept}
-use Rattle.dependency_graph.proofs.turned.enter_all.Goals as goal
+use Rattle.dependency_graph.proofs.TransposeLemmas.{enter_all_kept}
+use Rattle.dependency_graph.proofs.transpose.enter_all.Goals as goal
 
 pub loop-source-preserved : goal.loop-source-preserved
 loop-source-preserved c =

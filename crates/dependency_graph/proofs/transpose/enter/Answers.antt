@@ -1,6 +1,6 @@
 -- After a place, the lists are as the places that are left want them.
-use Rattle.dependency_graph.proofs.TurnLemmas.{enter_kept}
-use Rattle.dependency_graph.proofs.turned.enter.Goals as goal
+use Rattle.dependency_graph.proofs.TransposeLemmas.{enter_kept}
+use Rattle.dependency_graph.proofs.transpose.enter.Goals as goal
 
 pub loop-place-preserved : goal.loop-place-preserved
 loop-place-preserved c =

@@ -2,7 +2,7 @@
 use Rattle.std.proofs.Common.{◌≡◌, ◌<◌, drop, length}
 use Rattle.std.specs.List.{AllByRecursion}
 use Rattle.dependency_graph.specs.Transposed.{entered}
-use Rattle.dependency_graph.proofs.turned.enter.Given as goal
+use Rattle.dependency_graph.proofs.transpose.enter.Given as goal
 
 abbrev pub invariant-loop-place : goal.invariant-loop-place
 invariant-loop-place l = record {

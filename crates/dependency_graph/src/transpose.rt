@@ -65,14 +65,14 @@ fn enter_all(lists: &mut Vec<Numbers>, sources: &[Numbers]) -> Result<(), AllocE
     Ok(())
 }
 
-/// The lists turned round: in the one with the number m are the numbers of the lists that hold m.
-#[tactic(auto, using(crate::proofs::TurnLemmas::turned, crate::proofs::NeedLemmas::maker_is))]
+/// The lists transposed: in the one with the number m are the numbers of the lists that hold m.
+#[tactic(auto, using(crate::proofs::TransposeLemmas::is_transposed))]
 pub fn transposed(alloc: Global, lists: &[Numbers]) -> Result<Vec<Numbers>, AllocError>
     requires numbers { AllByRecursion (AllByRecursion (λ number. number < length lists.now)) lists.now }
     requires few { length lists.now ≤ 2048 }
-    ensures { IfOk result (λ turned. turned.items ≡ spec.transposed lists.entry.now) }
+    ensures { IfOk result (λ holders. holders.items ≡ spec.transposed lists.entry.now) }
 {
-    let mut turned = empty_lists(alloc, lists.len())?;
-    enter_all(&mut turned, lists)?;
-    Ok(turned)
+    let mut holders = empty_lists(alloc, lists.len())?;
+    enter_all(&mut holders, lists)?;
+    Ok(holders)
 }

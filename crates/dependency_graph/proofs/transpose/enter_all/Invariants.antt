@@ -2,7 +2,7 @@
 use Rattle.std.proofs.Common.{◌≡◌, ◌<◌, drop, length}
 use Rattle.std.specs.List.{AllByRecursion}
 use Rattle.dependency_graph.specs.Transposed.{entered_all}
-use Rattle.dependency_graph.proofs.turned.enter_all.Given as goal
+use Rattle.dependency_graph.proofs.transpose.enter_all.Given as goal
 
 abbrev pub invariant-loop-source : goal.invariant-loop-source
 invariant-loop-source l = record {

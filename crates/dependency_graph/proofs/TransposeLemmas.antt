@@ -1,11 +1,12 @@
--- Entering each list's number into the lists that it names turns the lists round.
+-- Entering each list's number into the lists that it names transposes the lists.
 use Rattle.std.proofs.Common.{◌≡◌, ◌≢◌, ℕ, zero, suc, ◌+◌, ◌-◌, ◌<◌, Bool, true, false, List, [], ◌∷◌, ◌++◌, length, drop, replicate, refl, sym, ap, subst, ◌∙◌, arith}
 use Rattle.std.specs.Prelude.{cond, ◌||◌, ◌==◌, Some, slice_get, slice_index_or, slice_set}
 use Rattle.std.specs.List.{filter, range_with_len, AllByRecursion}
 use Rattle.std.proofs.lemmas.Bool.Decides.{nat_tests}
 use Rattle.std.proofs.lemmas.List.{append-nil, append_assoc, drop_more, length-append, length-set, length-replicate, get_or-set_same, get_or-set_other, get_or-replicate}
 use Rattle.std.proofs.lemmas.List.FromFn.{fill_by_all}
-use Rattle.dependency_graph.specs.Transposed.{has, holders, transposed, ends_with, put_last, entered, entered_all}
+use Rattle.dependency_graph.specs.Needs.{has}
+use Rattle.dependency_graph.specs.Transposed.{holders, transposed, ends_with, put_last, entered, entered_all}
 
 no_number : (n : ℕ) → n < 0 → ⊥
 no_number n h = omega (arith, h)
@@ -152,8 +153,8 @@ empty_at n m h = get_or-replicate n m [] [] h
 empty_count : (n : ℕ) → length (empty n) ≡ n
 empty_count n = length-replicate n []
 
-turned_at : (lists : List (List ℕ)) (m : ℕ) → m < length lists → slice_index_or (entered_all 0 (empty (length lists)) lists) m [] ≡ holders lists m
-turned_at lists m h =
+transposed_at : (lists : List (List ℕ)) (m : ℕ) → m < length lists → slice_index_or (entered_all 0 (empty (length lists)) lists) m [] ≡ holders lists m
+transposed_at lists m h =
     let size : m < length (empty (length lists)) = omega (arith, h, empty_count (length lists)) in
     entered_all_at lists 0 m (empty (length lists)) [] size tt (empty_at (length lists) m h)
     ∙ sym (filtered lists (λ place. has m (slice_index_or lists place [])) 0 m (λ i k. ap (λ j. has m (slice_index_or lists j [])) (zero_add i)))
@@ -161,10 +162,10 @@ turned_at lists m h =
     zero_add : (i : ℕ) → 0 + i ≡ i
     zero_add i = omega arith
 
--- entered from the beginning, the lists are turned round
-pub turned : (lists : List (List ℕ)) → entered_all 0 (replicate (length lists) []) lists ≡ transposed lists
+-- entered from the beginning, the lists are transposed
+pub is_transposed : (lists : List (List ℕ)) → entered_all 0 (replicate (length lists) []) lists ≡ transposed lists
 unfolding transposed
-turned lists = fill_by_all (holders lists) (entered_all 0 (empty (length lists)) lists) (length lists) [] (entered_all_count lists 0 (empty (length lists)) ∙ empty_count (length lists)) (turned_at lists)
+is_transposed lists = fill_by_all (holders lists) (entered_all 0 (empty (length lists)) lists) (length lists) [] (entered_all_count lists 0 (empty (length lists)) ∙ empty_count (length lists)) (transposed_at lists)
 
 -- ---- along the loops
 

@@ -2,7 +2,7 @@
 use Rattle.std.proofs.Common.{◌≡◌, ℕ, true, sym, subst}
 use Rattle.dependency_graph.specs.Needs.{defines}
 use Rattle.dependency_graph.proofs.OrderLemmas.{defines_here}
-use Rattle.dependency_graph.proofs.single.defining_op.Goals as goal
+use Rattle.dependency_graph.proofs.values.defining_op.Goals as goal
 
 pub returns-then-value-end-clause-defines : goal.returns-then-value-end-clause-defines
 returns-then-value-end-clause-defines c =
