@@ -1,0 +1,44 @@
+-- A drawn mutation fits the plan.
+use Rattle.std.proofs.Common.{◌≡◌, ℕ, ◌+◌, ◌-◌, ◌<◌, ◌≤◌, ◌%◌, List, length, arith}
+use Rattle.word_program.specs.Program.{Source}
+use Rattle.templates.specs.Table.{count_of}
+use Rattle.op_order.specs.declared.slot.Slot.{Slot}
+use Rattle.op_order.specs.Plans.{op_at}
+use Rattle.op_order.specs.Legal.{IsLegal}
+use Rattle.op_order.specs.Windows.{low_of, high_of}
+use Rattle.op_order.proofs.LegalLemmas.{legal_op, has_template_at}
+use Rattle.op_order.proofs.WindowLaw.{low_below, high_is}
+use Rattle.mutations.specs.declared.mutation.Mutation.TheVariants.{Move, Template}
+use Rattle.mutations.specs.Mutations.{Fits, place_drawn}
+
+-- what is left after a division
+rest_below : (word n : ℕ) → 0 < n → word % n < n
+rest_below word n h = omega arith
+
+-- a slot that is drawn is there
+pub slot_within : (word n m : ℕ) → n ≡ m → 0 < m → word % n < m
+slot_within word n m e h =
+    let rest = rest_below word n (omega arith) in
+    omega arith
+
+place_within : (low high word : ℕ) → low ≤ high → low + word % (high - low + 1) ≤ high
+place_within low high word h =
+    let rest = rest_below word (high - low + 1) (omega arith) in
+    omega arith
+
+-- a slot moves within its window
+pub move_fits : (p : Source) (slots : List Slot) (slot word to : ℕ) → IsLegal p slots → slot < length slots → to ≡ place_drawn p slots slot word → Fits p slots (Move slot to)
+unfolding Fits
+move_fits p slots slot word to legal w e =
+    let below = low_below p slots slot legal w in
+    let high = high_is p slots slot legal w in
+    let above = high.above in
+    let last = place_within (low_of p slots slot) (high_of p slots slot) word (omega arith) in
+    (w, record { low = omega arith; high = omega arith })
+
+-- a slot gets a template of its operation
+pub template_fits : (p : Source) (slots : List Slot) (slot word number : ℕ) → IsLegal p slots → slot < length slots → number ≡ word % count_of p (op_at slots slot) → Fits p slots (Template slot number)
+unfolding Fits
+template_fits p slots slot word number legal w e =
+    let below = rest_below word (count_of p (op_at slots slot)) (has_template_at p (op_at slots slot) (legal_op p slots legal slot w)) in
+    (w, omega arith)

@@ -1,0 +1,56 @@
+ghost use Rattle.std.specs.Prelude.{◌≡◌, ◌<◌, ◌%◌, length};
+ghost use Rattle.templates.specs.Table.{count_of};
+ghost use Rattle.op_order.specs.Legal.{IsLegal};
+ghost use Rattle.op_order.specs.Plans.{op_at};
+ghost use Rattle.mutations.specs.Mutations as spec;
+
+use crate::mutation::Mutation;
+use op_order::{Plan, window};
+use templates::count;
+use word_program::Program;
+
+/// The place in the window of a slot that a word draws.
+fn place_drawn(program: &Program, plan: &Plan, slot: u16, word: u32) -> u16
+    requires legal { IsLegal program.now plan.now.slots }
+    requires slot { slot < length plan.now.slots }
+    ensures { result ≡ spec.place_drawn program.now plan.now.slots slot word }
+{
+    let (low, high) = window(program, plan, slot);
+    let places = (high - low) as u32 + 1;
+    low + (word % places) as u16
+}
+
+/// The template of a slot's operation that a word draws.
+fn template_drawn(program: &Program, plan: &Plan, slot: u16, word: u32) -> u8
+    requires legal { IsLegal program.now plan.now.slots }
+    requires slot { slot < length plan.now.slots }
+    ensures { result ≡ word % count_of program.now (op_at plan.now.slots slot) }
+{
+    let op = plan.slots()[slot as usize].op;
+    (word % count(program, op) as u32) as u8
+}
+
+/// The mutation of a legal plan that four words draw: the first one its kind, the second its slot, and the third the
+/// place in the slot's window to which it moves, or its template. It takes no memory, and time that grows with the
+/// numbers of slots and operations.
+#[tactic(auto, unfolding(crate::specs::Mutations::drawn))]
+pub fn drawn(program: &Program, plan: &Plan, words: [u32; 4]) -> Mutation
+    requires legal { IsLegal program.now plan.now.slots }
+    requires some { 0 < length plan.now.slots }
+    ensures mutation { result ≡ spec.drawn program.now plan.now.slots words }
+    ensures fits { spec.Fits program.now plan.now.slots result }
+{
+    let slot = (words[1] % plan.slots().len() as u32) as u16;
+    match words[0] % 4 {
+        0 => Mutation::Move {
+            slot,
+            to: place_drawn(program, plan, slot, words[2]),
+        },
+        1 => Mutation::Template {
+            slot,
+            number: template_drawn(program, plan, slot, words[2]),
+        },
+        2 => Mutation::Swap { slot },
+        _ => Mutation::Load { slot },
+    }
+}

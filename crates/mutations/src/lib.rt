@@ -1,0 +1,16 @@
+//! Mutations: the changes of a plan that a search tries, and the random words that draw them.
+//!
+//! It promises to whoever records, replays or checks a search that [`words`] are those of ChaCha20 for a seed and a
+//! turn, and that [`drawn`] and [`apply`] are the definitions of `specs/Mutations.antt`: four words and a plan
+//! determine one mutation, and a legal plan stays legal. None of these calls takes memory.
+#![tactic(auto)]
+
+mod change;
+mod drawing;
+mod mutation;
+mod random;
+
+pub use change::apply;
+pub use drawing::drawn;
+pub use mutation::Mutation;
+pub use random::words;

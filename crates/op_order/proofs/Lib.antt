@@ -1,0 +1,5 @@
+pub mod Moves
+pub mod LastPlace
+pub mod LegalLemmas
+pub mod WindowLaw
+pub mod Givers

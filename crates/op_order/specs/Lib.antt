@@ -1,0 +1,4 @@
+pub mod Plans
+pub mod Legal
+pub mod Windows
+pub mod Realises
