@@ -16,6 +16,7 @@ use Rattle.word_program.proofs.WrittenKept.{AtMostOnce, ops_once, written_once}
 use Rattle.word_program.specs.Values.{is_at}
 use Rattle.std.specs.Prelude.{count_by}
 use Rattle.word_program.proofs.ParamKept.{params_kept, params_count}
+use Rattle.word_program.proofs.SomeOps.{some_number, some_ops}
 use Rattle.word_program.proofs.BodyLemmas.{ops_count, IsScope, scope_fact, targets_count}
 
 at_most : (a b : ℕ) → nat_lt a b ≡ false → b ≤ a
@@ -25,13 +26,14 @@ at_most a b e = grind (arith, nat_tests)
 pub record IsTop (p : RawProgram) : Type 0 where
   pub name : is_identifier p.name ≡ true
   pub params : length p.returns + length p.arguments ≤ 6
+  pub some_return : 1 ≤ length p.returns
   pub ops : length p.body ≤ 2048
 
 pub top_kept : (p : RawProgram) → first_code (top_rules p) ≡ None → IsTop p
 unfolding top_rules
 top_kept p none =
     let r = rows4 2 5 6 15 (not (is_identifier p.name)) (nat_lt 6 (length p.returns + length p.arguments)) (nat_lt 2048 (length p.body)) (length p.returns == 0) none in
-    record { name = not_false _ r.0; params = at_most _ _ r.1; ops = at_most _ _ r.2 }
+    record { name = not_false _ r.0; params = at_most _ _ r.1; some_return = some_number _ r.3; ops = at_most _ _ r.2 }
 
 -- parts that break no rule are a program that keeps it
 pub accepted : (p : RawProgram) → first_fault p ≡ None → IsAccepted (program_of p)
@@ -49,8 +51,10 @@ accepted p none =
     let none_yet : AtMostOnce [] = record { once = λ (param word : ℕ). omega arith } in
     let once = ops_once p.body (start (params_of p)) 0 body.0 none_yet in
     let once_written = written_once (scope_after (params_of p) p.body).targets (params_of p) body.1 once in
+    let written = subst (λ (ts : List Target). (param word : ℕ) → IsOutputWord (params_of p) param word → count_by (is_at param word) ts ≡ 1) kept.targets_kept once_written in
     record {
-      written = subst (λ (ts : List Target). (param word : ℕ) → IsOutputWord (params_of p) param word → count_by (is_at param word) ts ≡ 1) kept.targets_kept once_written;
+      written = written;
+      some_ops = some_ops p.returns p.arguments (scope_after (params_of p) p.body).ops top.some_return (params_kept p b.0) written;
       name = top.name;
       ops = subst (AreOps (params_of p) []) (sym ops.behind) ops.legal;
       params_limit = subst (λ (n : ℕ). n ≤ 6) (sym (params_count p)) top.params;

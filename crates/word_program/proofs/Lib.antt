@@ -10,5 +10,6 @@ pub mod CopyLemmas
 pub mod OperandKept
 pub mod OpsKept
 pub mod WrittenKept
+pub mod SomeOps
 pub mod SameLemmas
 pub mod LookupLemmas

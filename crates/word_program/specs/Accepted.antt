@@ -88,6 +88,7 @@ pub record IsAccepted (source : Source) : Type 0 where
   pub name : IsTrue (is_identifier source.name)
   pub params_limit : length source.params ≤ 6
   pub params : AllByRecursion IsParam source.params
+  pub some_ops : 1 ≤ length source.ops
   pub ops_limit : length source.ops ≤ 2048
   pub values_limit : length (targets_of source.ops) ≤ 4096
   pub ops : AreOps source.params [] source.ops
