@@ -1,12 +1,12 @@
 -- A drawn mutation fits the plan.
-use Rattle.std.proofs.Common.{◌≡◌, ℕ, ◌+◌, ◌-◌, ◌<◌, ◌≤◌, ◌%◌, List, length, arith}
+use Rattle.std.proofs.Common.{◌≡◌, ℕ, ◌+◌, ◌-◌, ◌<◌, ◌≤◌, ◌%◌, List, length, arith, sym, ap, subst}
 use Rattle.word_program.specs.Program.{Source}
 use Rattle.templates.specs.Table.{count_of}
 use Rattle.op_order.specs.declared.slot.Slot.{Slot}
 use Rattle.op_order.specs.Plans.{op_at}
 use Rattle.op_order.specs.Legal.{IsLegal}
 use Rattle.op_order.specs.Windows.{low_of, high_of}
-use Rattle.op_order.proofs.LegalLemmas.{legal_op, has_template_at}
+use Rattle.op_order.proofs.LegalLemmas.{legal_count, legal_op, has_template_at}
 use Rattle.op_order.proofs.WindowLaw.{low_below, high_is}
 use Rattle.mutations.specs.declared.mutation.Mutation.TheVariants.{Move, Template}
 use Rattle.mutations.specs.Mutations.{Fits, place_drawn}
@@ -15,11 +15,15 @@ use Rattle.mutations.specs.Mutations.{Fits, place_drawn}
 rest_below : (word n : ℕ) → 0 < n → word % n < n
 rest_below word n h = omega arith
 
+-- a slot is drawn among those of the operations
+pub slot_is : (p : Source) (slots : List Slot) (word : ℕ) → IsLegal p slots → word % length p.ops ≡ word % length slots
+slot_is p slots word legal = ap (λ n. word % n) (sym (legal_count p slots legal))
+
 -- a slot that is drawn is there
-pub slot_within : (word n m : ℕ) → n ≡ m → 0 < m → word % n < m
-slot_within word n m e h =
-    let rest = rest_below word n (omega arith) in
-    omega arith
+pub slot_there : (p : Source) (slots : List Slot) (word : ℕ) → IsLegal p slots → 1 ≤ length p.ops → word % length p.ops < length slots
+slot_there p slots word legal some =
+    let rest = rest_below word (length p.ops) some in
+    subst (λ (n : ℕ). word % length p.ops < n) (sym (legal_count p slots legal)) rest
 
 place_within : (low high word : ℕ) → low ≤ high → low + word % (high - low + 1) ≤ high
 place_within low high word h =

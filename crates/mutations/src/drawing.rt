@@ -30,17 +30,26 @@ fn template_drawn(program: &Program, plan: &Plan, slot: u16, word: u32) -> u8
     (word % count(program, op) as u32) as u8
 }
 
+/// The slot that a word draws: a legal plan has a slot for each operation, and a program has an operation.
+#[tactic(auto, using(crate::proofs::FitsDrawn::slot_is, crate::proofs::FitsDrawn::slot_there))]
+fn slot_drawn(program: &Program, plan: &Plan, word: u32) -> u16
+    requires { IsLegal program.now plan.now.slots }
+    ensures slot { result ≡ word % length plan.now.slots }
+    ensures there { result < length plan.now.slots }
+{
+    (word % program.ops().len() as u32) as u16
+}
+
 /// The mutation of a legal plan that four words draw: the first one its kind, the second its slot, and the third the
 /// place in the slot's window to which it moves, or its template. It takes no memory, and time that grows with the
 /// numbers of slots and operations.
 #[tactic(auto, unfolding(crate::specs::Mutations::drawn))]
 pub fn drawn(program: &Program, plan: &Plan, words: [u32; 4]) -> Mutation
-    requires legal { IsLegal program.now plan.now.slots }
-    requires some { 0 < length plan.now.slots }
+    requires { IsLegal program.now plan.now.slots }
     ensures mutation { result ≡ spec.drawn program.now plan.now.slots words }
     ensures fits { spec.Fits program.now plan.now.slots result }
 {
-    let slot = (words[1] % plan.slots().len() as u32) as u16;
+    let slot = slot_drawn(program, plan, words[1]);
     match words[0] % 4 {
         0 => Mutation::Move {
             slot,
