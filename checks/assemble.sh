@@ -1,7 +1,6 @@
 #!/bin/sh
-# The canonical text of each example listing, and the text that `search` makes of each example program,
-# assemble with GNU as. The first argument is the program; without it the example listings are taken as they
-# stand.
+# The canonical text of each example listing assembles with GNU as. The first argument is the program, which says
+# the text; without it the example listings are taken as they stand.
 set -eu
 here=$(cd "$(dirname "$0")" && pwd)
 examples=$here/../examples
@@ -37,13 +36,5 @@ for listing in "$examples"/*.s; do
         assemble "$listing" "$name"
     fi
 done
-
-if [ -n "$program" ]; then
-    for source in "$examples"/*.json; do
-        name=$(basename "$source" .json)
-        (cd "$folder" && "$program" search "$source" "$name.s" >/dev/null)
-        assemble "$folder/$name.s" "the listing of $name.json"
-    done
-fi
 
 echo "assemble: $count texts assemble"
