@@ -1,1 +1,4 @@
 pub mod Tables
+pub mod NamesBack
+pub mod GrammarFound
+pub mod GrammarRead

@@ -32,7 +32,7 @@ name_word (b ∷ bs) h =
 start_no_dot : (b : ℕ) → is_name_start b ≡ true → (b == 46) ≡ false
 start_no_dot b h = grind (arith, nat_tests)
 
-name_no_dot : (name : List ℕ) → is_identifier name ≡ true → begins_dot name ≡ false
+pub name_no_dot : (name : List ℕ) → is_identifier name ≡ true → begins_dot name ≡ false
 unfolding is_identifier
 name_no_dot [] h = refl
 name_no_dot (b ∷ bs) h = start_no_dot b (and_parts (is_name_start b) _ h).0

@@ -18,7 +18,7 @@ use Rattle.x86_instr.specs.Ranges.{is_shift_count}
 use Rattle.asm_tokens.specs.Tokens.{Token}
 use Rattle.asm_text.specs.Rows.{operands, register_comma, destination, last_register, last_byte_register, last_memory, last_rm, last_src, last_count, last_wide, mov_to_register, store, mov, lea, bin, test_row, un, register_rm, adcx, adox, mulx, mul, imul, register_count, shl, shr, shrd, counted, shlx, shrx, set, movzx, cmov, plain, row, instr_in}
 use Rattle.x86_instr.specs.Fits.{FitsMem, FitsRm, FitsSrc, FitsInstr}
-use Rattle.asm_text.proofs.NamesBack.{mnemonic_back}
+use Rattle.asm_operands.proofs.NamesBack.{mnemonic_back}
 use Rattle.asm_text.proofs.OperandsBack.{register_at_back, byte_register_at_back, address_back, memory_back, memory_no_register, rm_back, number_no_rm, wide_back, src_back, count_back}
 use Rattle.asm_text.proofs.Spelled.{reg_tokens, byte_reg_tokens, number_tokens, comma_tokens, address_tokens, mem_tokens, rm_tokens, src_tokens, operand_tokens, instr_tokens}
 
@@ -78,7 +78,7 @@ store_back : (mem : Mem) (src : Reg) → FitsMem mem → mov (mem_tokens mem (co
 unfolding mov destination operands register_comma store
 store_back mem src fits = rw (memory_no_register mem (comma_tokens (reg_tokens src [])), memory_back mem (comma_tokens (reg_tokens src [])) fits, last_register_back src) refl
 
-bin_row : (op : Bin) (ts : List Token) → row (bin_mnemonic op) ts ≡ bin op ts
+pub bin_row : (op : Bin) (ts : List Token) → row (bin_mnemonic op) ts ≡ bin op ts
 unfolding row
 bin_row bins.Add ts = refl
 bin_row bins.Adc ts = refl
@@ -89,14 +89,14 @@ bin_row bins.Or ts = refl
 bin_row bins.Xor ts = refl
 bin_row bins.Cmp ts = refl
 
-un_row : (op : Un) (ts : List Token) → row (un_mnemonic op) ts ≡ un op ts
+pub un_row : (op : Un) (ts : List Token) → row (un_mnemonic op) ts ≡ un op ts
 unfolding row
 un_row uns.Inc ts = refl
 un_row uns.Dec ts = refl
 un_row uns.Neg ts = refl
 un_row uns.Not ts = refl
 
-set_row : (cond : Cond) (ts : List Token) → row (set_mnemonic cond) ts ≡ set cond ts
+pub set_row : (cond : Cond) (ts : List Token) → row (set_mnemonic cond) ts ≡ set cond ts
 unfolding row
 set_row conds.O ts = refl
 set_row conds.No ts = refl
@@ -105,7 +105,7 @@ set_row conds.Nc ts = refl
 set_row conds.Z ts = refl
 set_row conds.Nz ts = refl
 
-cmov_row : (cond : Cond) (ts : List Token) → row (cmov_mnemonic cond) ts ≡ cmov cond ts
+pub cmov_row : (cond : Cond) (ts : List Token) → row (cmov_mnemonic cond) ts ≡ cmov cond ts
 unfolding row
 cmov_row conds.O ts = refl
 cmov_row conds.No ts = refl

@@ -12,3 +12,6 @@ pub mod FineText
 pub mod LinesBack
 pub mod HeaderBack
 pub mod RoundTrip
+pub mod InstrRead
+pub mod InstrFound
+pub mod ItemsBoth

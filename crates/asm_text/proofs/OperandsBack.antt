@@ -15,7 +15,8 @@ use Rattle.asm_tokens.proofs.Decimals.{written}
 use Rattle.asm_operands.specs.Names.{reg_text, register_named}
 use Rattle.asm_operands.specs.Operands.{register_at, byte_register_at, number_at, scale_at, plus_register, scaled, index_at, offset_at, displacement_at, opened, memory_at, rm_at, immediate_at, small_at, wide_at, src_at, count_at}
 use Rattle.x86_instr.specs.Fits.{FitsSmall, FitsIndex, FitsMem, FitsRm, FitsSrc}
-use Rattle.asm_text.proofs.NamesBack.{register_back, byte_register_back, digit_no_register}
+use Rattle.asm_operands.proofs.NamesBack.{register_back, byte_register_back}
+use Rattle.asm_text.proofs.NamesBack.{digit_no_register}
 use Rattle.asm_text.proofs.Spelled.{byte_reg_tokens, number_tokens, closing, disp_tokens, index_tokens, address_tokens, mem_tokens, rm_tokens, imm_tokens, src_tokens}
 
 pub register_at_back : (b : Bool) (r : Reg) (rest : List Token) → register_at (token b (reg_text r) ∷ rest) ≡ Some (r, rest)

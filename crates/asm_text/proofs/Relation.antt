@@ -10,6 +10,7 @@ use Rattle.asm_tokens.proofs.FirstFault.{reach, finished}
 use Rattle.asm_text.specs.Items.{Item, blank, syntax_line, text_line, global, label, code, item_in}
 use Rattle.asm_text.specs.Reading.{Stage, start, syntax, text, named, body, State, state, step, step_by, done}
 use Rattle.asm_text.specs.Texts.{is_full, AreItems, Stands}
+use Rattle.asm_text.proofs.ItemsBoth.{item_read, item_found}
 
 abbrev pub listing : List ℕ → List Line → NamedLines
 listing name found = record { name = name; lines = found }
@@ -34,13 +35,13 @@ pub lines_run : (ls : List (List ℕ)) (s : State) (v : NamedLines) → finished
 lines_run [] s v e = ([], tt, e)
 lines_run (l ∷ ls) s v e = bind_step (item_in l) s ls _ v (λ i is rest. to_state (step_by s i) ls _ v (λ t moves more.
     let h = lines_run ls t v more in
-    (i ∷ h.0, (is, h.1), rw moves h.2)) rest) e
+    (i ∷ h.0, (item_found l i is, h.1), rw moves h.2)) rest) e
 
 run_lines : (ls : List (List ℕ)) (is : List Item) (s : State) (v : NamedLines) → AreItems ls is → run s is ≡ Some v → finished step done s ls ≡ Some v
 run_lines [] [] s v each e = e
 run_lines [] (i ∷ is) s v each e = absurd each
 run_lines (l ∷ ls) [] s v each e = absurd each
-run_lines (l ∷ ls) (i ∷ is) s v each e = rw each.0 (go (step_by s i) ls is v (λ t. run_lines ls is t v each.1) e)
+run_lines (l ∷ ls) (i ∷ is) s v each e = rw (item_read l i each.0) (go (step_by s i) ls is v (λ t. run_lines ls is t v each.1) e)
   where
     go : (o : Option State) (ls : List (List ℕ)) (is : List Item) (v : NamedLines) → ((t : State) → run t is ≡ Some v → finished step done t ls ≡ Some v) → (o >>= (λ t. run t is)) ≡ Some v → ((o >>= (λ t. reach step t ls)) >>= done) ≡ Some v
     go None ls is v next e = cc

@@ -12,6 +12,7 @@ use Rattle.asm_text.specs.Texts.{AreItems, is_full, whole, Stands}
 use Rattle.asm_text.specs.Assembly.{line_text, header_text, text_of}
 use Rattle.x86_instr.specs.Fits.{FitsLines}
 use Rattle.asm_text.proofs.Outcome.{stands_read}
+use Rattle.asm_text.proofs.ItemsBoth.{item_found}
 use Rattle.asm_text.proofs.LinesBack.{bare, line_back, line_inline}
 use Rattle.asm_text.proofs.HeaderBack.{label_back, label_inline, global_back, global_inline, syntax_back, text_back}
 
@@ -43,7 +44,7 @@ text_lines v name fits =
 
 body_items : (found : List Line) → FitsLines found → AreItems (map bare found) (map code found)
 body_items [] fits = tt
-body_items (line ∷ found) fits = (line_back line.instr line.owner fits.0 fits.1, body_items found fits.2)
+body_items (line ∷ found) fits = (item_found (bare line) (code line) (line_back line.instr line.owner fits.0 fits.1), body_items found fits.2)
 
 all_full : (found : List Line) → filter is_full (map code found) ≡ map code found
 all_full [] = refl
@@ -52,7 +53,19 @@ all_full (line ∷ found) = ap (λ is. code line ∷ is) (all_full found)
 header_stands : (v : NamedLines) → is_identifier v.name ≡ true → FitsLines v.lines → Stands (header_lines v.name (map bare v.lines)) v
 header_stands v name fits = record {
   items = whole v;
-  each = (syntax_back, (text_back, (global_back v.name name, (label_back v.name name, body_items v.lines fits))));
+  each = (
+    item_found (codes ".intel_syntax noprefix") syntax_line syntax_back,
+    (
+      item_found (codes ".text") text_line text_back,
+      (
+        item_found (codes ".globl " ++ v.name) (global v.name) (global_back v.name name),
+        (
+          item_found (v.name ++ codes ":") (label v.name) (label_back v.name name),
+          body_items v.lines fits,
+        ),
+      ),
+    ),
+  );
   order = ap (λ is. syntax_line ∷ text_line ∷ global v.name ∷ label v.name ∷ is) (all_full v.lines);
 }
 

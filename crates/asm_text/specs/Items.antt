@@ -1,4 +1,4 @@
--- What one line of a text is, whatever stands before it.
+-- What one line of a text is, whatever stands before it, as the code reads it. `Grammar` says it by a relation.
 use Rattle.std.specs.Prelude.{ℕ, Bool, false, not, ◌&&◌, List, [], ◌∷◌, Option, Some, None, if◌then◌else◌, nat_lt, codes}
 use Rattle.word_text.specs.Texts.{is_identifier}
 use Rattle.x86_instr.specs.declared.line.Line.{Line}

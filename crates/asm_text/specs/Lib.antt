@@ -1,6 +1,7 @@
 pub mod Assembly
 pub mod Rows
 pub mod Items
+pub mod Grammar
 pub mod Reading
 pub mod Views
 pub mod Faults

@@ -1,8 +1,9 @@
 -- Which texts stand for which listings, by their lines; and the first faulty line of a text.
-use Rattle.std.specs.Prelude.{◌≡◌, ◌<◌, ◌≤◌, ℕ, Bool, true, false, List, [], ◌∷◌, filter, map, length, Some}
+use Rattle.std.specs.Prelude.{◌≡◌, ◌<◌, ◌≤◌, ℕ, Bool, true, false, List, [], ◌∷◌, filter, map, length}
 use Rattle.x86_instr.specs.Listings.{NamedLines, ends_at_ret}
 use Rattle.asm_tokens.specs.Whole.{IsFirstFault}
-use Rattle.asm_text.specs.Items.{Item, blank, syntax_line, text_line, global, label, code, item_in}
+use Rattle.asm_text.specs.Items.{Item, blank, syntax_line, text_line, global, label, code}
+use Rattle.asm_text.specs.Grammar.{IsItem}
 use Rattle.asm_text.specs.declared.fault.TextFault.{TextFault}
 use Rattle.asm_text.specs.declared.fault.TextFault.TheVariants as faults
 
@@ -19,7 +20,7 @@ abbrev pub AreItems : List (List ℕ) → List Item → Type 0
 AreItems [] [] = Unit {0}
 AreItems [] (i ∷ is) = ⊥
 AreItems (l ∷ ls) [] = ⊥
-AreItems (l ∷ ls) (i ∷ is) = (item_in l ≡ Some i) × AreItems ls is
+AreItems (l ∷ ls) (i ∷ is) = IsItem l i × AreItems ls is
 
 -- the four header lines and the instructions
 abbrev pub whole : NamedLines → List Item

@@ -2,7 +2,7 @@
 //! mnemonics, and lists of lines that end at their only `ret`.
 //!
 //! It promises to whoever reads a [`Listing`] that it has at most 65,536 lines, of which the last one is
-//! the only `ret`, and that a shift's count, an index and an owner are within their ranges, since the types
+//! the only `ret`, and that each of its numbers is within its range (`specs/Fits.antt`), since the types
 //! [`ShiftCount`], [`IndexReg`], [`Scale`] and [`Owner`] hold nothing else. What instructions do is said by
 //! the crate `x86_meaning`. The instructions are those of the Intel Software Developer's Manual, volume 2, at
 //! 64-bit operand size, but for `setcc`, which writes a byte, and `movzx`, which reads one.
