@@ -1,5 +1,5 @@
-ghost use Rattle.std.specs.Prelude.{◌≡◌, ◌<◌, ◌^◌, ◌-◌, ◌++◌, ◌∷◌, [], length, option_map, OnOk, OnErr, IfOk, IfErr, MatchResult, Ok, Err};
-ghost use Rattle.x86_instr.specs.Listings.{listing_of};
+ghost use Rattle.std.specs.Prelude.{◌≡◌, ◌<◌, ◌≤◌, ◌^◌, true, ◌-◌, ◌++◌, ◌∷◌, [], length, option_map, OnOk, OnErr, IfOk, IfErr, MatchResult, Ok, Err};
+ghost use Rattle.x86_instr.specs.Listings.{ends_at_ret, listing_of};
 ghost use Rattle.asm_text.specs.Reading as spec;
 ghost use Rattle.asm_text.specs.Views.{item_view, stage_view};
 ghost use Rattle.std.specs.Str.Lines.{lines};
@@ -37,6 +37,7 @@ struct Found {
 /// since their lines could not be counted.
 pub fn read(alloc: Global, bytes: &[u8]) -> Result<Listing, TextFault>
     ensures ok { IfOk result (λ listing. Stands (lines bytes.now) listing) }
+    ensures rules { IfOk result (λ listing. (length listing.lines ≤ 65536) × (ends_at_ret listing.lines ≡ true)) }
     ensures err { IfErr result (λ fault. Refuses (lines bytes.now) fault) }
 {
     if bytes.len() >= u32::MAX as usize {
@@ -49,7 +50,8 @@ pub fn read(alloc: Global, bytes: &[u8]) -> Result<Listing, TextFault>
 #[tactic(auto, unfolding(crate::specs::Faults::answer))]
 fn read_listing(alloc: Global, bytes: &[u8]) -> Result<Listing, TextFault>
     requires { length bytes.now < 2 ^ 32 - 1 }
-    ensures { Told result (answer bytes.now) }
+    ensures answer { Told result (answer bytes.now) }
+    ensures rules { IfOk result (λ listing. (length listing.lines ≤ 65536) × (ends_at_ret listing.lines ≡ true)) }
 {
     match read_text(alloc, bytes) {
         Ok(found) => listing(alloc, found),
@@ -58,7 +60,8 @@ fn read_listing(alloc: Global, bytes: &[u8]) -> Result<Listing, TextFault>
 }
 
 fn listing(alloc: Global, found: Found) -> Result<Listing, TextFault>
-    ensures { result ≡ listing_answer found.name found.lines }
+    ensures answer { result ≡ listing_answer found.name found.lines }
+    ensures rules { IfOk result (λ listing. (length listing.lines ≤ 65536) × (ends_at_ret listing.lines ≡ true)) }
 {
     match Listing::new(alloc, found.name, found.lines) {
         Ok(listing) => Ok(listing),

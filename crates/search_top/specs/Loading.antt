@@ -1,12 +1,12 @@
 -- The program and the listing that a command loads from its files, and why it has none, by cases of its status.
-use Rattle.std.specs.Prelude.{◌≡◌, ℕ, ◌<◌, ◌≤◌, List, length, Option, IfSome}
+use Rattle.std.specs.Prelude.{◌≡◌, ℕ, true, ◌<◌, ◌≤◌, List, length, Option, IfSome}
 use Rattle.std.specs.Str.Lines.{lines}
 use Rattle.io_ports.specs.Shelf.{Rose}
 use Rattle.word_program.specs.Program.{Source}
 use Rattle.fiat_json.specs.Reading.{IsProgram, IsNotJson, Breaks}
 use Rattle.x86_instr.specs.declared.listing.ListingFault.{ListingFault}
 use Rattle.x86_instr.specs.declared.listing.ListingFault.TheVariants as causes
-use Rattle.x86_instr.specs.Listings.{NamedLines}
+use Rattle.x86_instr.specs.Listings.{NamedLines, ends_at_ret}
 use Rattle.asm_text.specs.Texts.{Stands, Refuses}
 use Rattle.asm_text.specs.declared.fault.TextFault.{TextFault}
 use Rattle.asm_text.specs.declared.fault.TextFault.TheVariants as texts
@@ -35,9 +35,14 @@ RefusesProgram name told faults faults' status = ⊥
 
 -- ---- the listing
 
--- the file that the shelf told before, where it told it, is a text of this listing
+-- the lines are those of a listing: at most 65,536, of which the last one is the only `ret`
+pub record KeepsRules (listing : NamedLines) : Type 0 where
+  pub short : length listing.lines ≤ 65536
+  pub ends : ends_at_ret listing.lines ≡ true
+
+-- the file that the shelf told before, where it told it, is a text of this listing, which keeps the rules
 abbrev pub IsListing : Option (List ℕ) → NamedLines → Type 0
-IsListing told listing = IfSome told (λ bytes. (length bytes ≤ asm_limit) × Stands (lines bytes) listing)
+IsListing told listing = KeepsRules listing × IfSome told (λ bytes. (length bytes ≤ asm_limit) × Stands (lines bytes) listing)
 
 -- the file has a text that stands for no listing, for this cause
 abbrev pub IsRefused : Option (List ℕ) → TextFault → Type 0
