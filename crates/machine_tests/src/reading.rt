@@ -11,9 +11,6 @@ const HEADER: &str = ".intel_syntax noprefix\n.text\n.globl f\nf:\n";
 // The listing of these instructions and a last `ret`.
 pub fn listing_of(alloc: Global, instructions: &str) -> Result<Option<Listing>, Fail> {
     let text = format!(in alloc; "{HEADER}{instructions}\nret\n")?;
-    if text.len() > 1_000_000 {
-        return Ok(None);
-    }
     match read(alloc, text.as_bytes()) {
         Ok(listing) => Ok(Some(listing)),
         Err(_) => Ok(None),

@@ -140,9 +140,6 @@ const REFUSED: &[&str] = &[
 ];
 
 fn answer(alloc: Global, text: &str) -> Result<Result<Vec<u8>, TextFault>, AllocError> {
-    if text.len() > 1_000_000 {
-        return Ok(Err(TextFault::Memory));
-    }
     match read(alloc, text.as_bytes()) {
         Ok(listing) => Ok(Ok(write(alloc, &listing)?)),
         Err(fault) => Ok(Err(fault)),
