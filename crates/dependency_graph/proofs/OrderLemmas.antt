@@ -172,26 +172,16 @@ users_are_ops links graph op =
 
 -- ---- the lists, as a graph has them
 
-at_other : (lists : List (List ℕ)) (n : ℕ) (other : List ℕ) → n < length lists → slice_index_or lists n other ≡ slice_index_or lists n []
-at_other [] n other h = absurd (no_number n h)
-at_other (x ∷ xs) zero other h = refl
-at_other (x ∷ xs) (suc n) other h = at_other xs n other (omega (arith, h))
+pub needs_earlier_at : (inside : Links) → IsGraph inside → (lists : List (List ℕ)) (op : ℕ) → lists ≡ inside.needs → AllByRecursion (λ other. other < op) (slice_index_or lists op [])
+needs_earlier_at inside graph lists op is = subst (λ (ls : List (List ℕ)). AllByRecursion (λ other. other < op) (slice_index_or ls op [])) (sym is) (needs_earlier inside graph op)
 
-pub needs_earlier_at : (inside links : Links) → inside ≡ links → IsGraph inside → (op : ℕ) (list : List ℕ) → op < length links.needs → list ≡ slice_index_or inside.needs op list → AllByRecursion (λ other. other < op) list
-needs_earlier_at inside links same graph op list h is =
-    let size : op < length inside.needs = subst (λ (l : Links). op < length l.needs) (sym same) h in
-    subst (AllByRecursion (λ (other : ℕ). other < op)) (sym (is ∙ at_other inside.needs op list size)) (needs_earlier inside graph op)
+pub users_later_at : (inside : Links) → IsGraph inside → (lists : List (List ℕ)) (op : ℕ) → lists ≡ inside.users → AllByRecursion (λ user. op < user) (slice_index_or lists op [])
+users_later_at inside graph lists op is = subst (λ (ls : List (List ℕ)). AllByRecursion (λ user. op < user) (slice_index_or ls op [])) (sym is) (users_later inside graph op)
 
-pub users_later_at : (inside links : Links) → inside ≡ links → IsGraph inside → (op : ℕ) (list : List ℕ) → op < length links.users → list ≡ slice_index_or inside.users op list → AllByRecursion (λ user. op < user) list
-users_later_at inside links same graph op list h is =
-    let size : op < length inside.users = subst (λ (l : Links). op < length l.users) (sym same) h in
-    subst (AllByRecursion (λ (user : ℕ). op < user)) (sym (is ∙ at_other inside.users op list size)) (users_later inside graph op)
-
-pub users_are_ops_at : (inside links : Links) → inside ≡ links → IsGraph inside → (op : ℕ) (list : List ℕ) → op < length links.users → list ≡ slice_index_or inside.users op list → AllByRecursion (λ user. user < length links.users) list
-users_are_ops_at inside links same graph op list h is =
-    let size : op < length inside.users = subst (λ (l : Links). op < length l.users) (sym same) h in
-    let within = subst (AllByRecursion (λ (user : ℕ). user < length inside.users)) (sym (is ∙ at_other inside.users op list size)) (users_are_ops inside graph op) in
-    subst (λ (l : Links). AllByRecursion (λ user. user < length l.users) list) same within
+pub users_are_ops_at : (inside links : Links) → inside ≡ links → IsGraph inside → (lists : List (List ℕ)) (op : ℕ) → lists ≡ inside.users → AllByRecursion (λ user. user < length links.users) (slice_index_or lists op [])
+users_are_ops_at inside links same graph lists op is =
+    let within = subst (λ (ls : List (List ℕ)). AllByRecursion (λ user. user < length inside.users) (slice_index_or ls op [])) (sym is) (users_are_ops inside graph op) in
+    subst (λ (l : Links). AllByRecursion (λ user. user < length l.users) (slice_index_or lists op [])) same within
 
 -- ---- the laws
 

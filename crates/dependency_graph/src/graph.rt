@@ -26,6 +26,13 @@ impl Model for Graph {
     ghost invariant = { λ g. IsGraph (record { needs = g.needs.items; users = g.users.items }) };
 }
 
+fn list_at(lists: &[Numbers], op: u16) -> &[u16]
+    requires { op < length lists.now }
+    ensures { result.now ≡ slice_index_or lists.now op [] }
+{
+    lists[op as usize].items()
+}
+
 impl Graph {
     /// The graph of a program. The one error is want of memory.
     #[tactic(auto, using(crate::proofs::NeedLemmas::graph_is))]
@@ -46,7 +53,7 @@ impl Graph {
         ensures needs { result.now ≡ slice_index_or self.now.needs op [] }
         ensures earlier { AllByRecursion (λ other. other < op) result.now }
     {
-        self.needs[op as usize].items()
+        list_at(self.needs.as_slice(), op)
     }
 
     /// The operations that need the one with this number: those that have a result of it as an operand, ascending,
@@ -57,6 +64,6 @@ impl Graph {
         ensures later { AllByRecursion (λ user. op < user) result.now }
         ensures within { AllByRecursion (λ user. user < length self.now.users) result.now }
     {
-        self.users[op as usize].items()
+        list_at(self.users.as_slice(), op)
     }
 }

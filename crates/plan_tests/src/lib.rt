@@ -1,0 +1,8 @@
+//! The tests of the crates that say which plans a program has. They stand here and not in those crates, since a
+//! library with a test of its own is proved twice.
+#![tactic(auto)]
+
+#[cfg(test)]
+mod choices;
+#[cfg(test)]
+mod programs;
