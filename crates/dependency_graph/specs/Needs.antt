@@ -1,5 +1,6 @@
--- Which operation needs which. A program is in single assignment form: each value is a result of one operation.
--- An operation needs those of which a result is one of its operands.
+-- Which operation needs which: the flow dependence of straight-line code in static single assignment form (Cytron
+-- and others, 1991), where each value is a result of one operation. An operation needs those of which a result is
+-- one of its operands.
 use Rattle.std.specs.Prelude.{◌≡◌, ℕ, ◌+◌, Bool, false, ◌&&◌, ◌==◌, nat_lt, nat_le, List, [], length, map, take, slice_get}
 use Rattle.std.specs.List.{filter, list_any, range_with_len}
 use Rattle.std.specs.Option.{option_map_or}
