@@ -3,3 +3,4 @@ pub mod LastPlace
 pub mod LegalLemmas
 pub mod WindowLaw
 pub mod Givers
+pub mod Differing

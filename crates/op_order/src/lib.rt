@@ -11,7 +11,8 @@ mod slot;
 mod windows;
 
 pub use laws::{
-    each_operation_has_a_slot, needed_operations_stand_before, slots_move_within_their_windows,
+    each_operation_has_a_slot, listings_differ_first_at_one_slot, needed_operations_stand_before,
+    slots_move_within_their_windows,
 };
 pub use plan::Plan;
 pub use slot::Slot;
