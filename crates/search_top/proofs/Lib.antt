@@ -1,5 +1,4 @@
 pub mod CopyIsCorrect
-pub mod StartExists
 pub mod OutputWords
 pub mod StatedOutputs
 pub mod Telling

@@ -21,6 +21,6 @@ mod status;
 mod words;
 
 pub use commands::command;
-pub use laws::{copy_can_start, plain_listing_is_correct};
+pub use laws::plain_listing_is_correct;
 pub use search_command::search;
 pub use status::{Status, exit_of, line_of};

@@ -2,6 +2,7 @@
 
 ghost use Rattle.std.specs.Prelude.{◌≡◌, ℕ, ◌+◌, ◌-◌, ◌^◌, ◌≤◌, ◌↔◌, true, false, List, FitsSigned};
 ghost use Rattle.std.specs.Int.{w64};
+ghost use Rattle.word_program.specs.Accepted.{IsAccepted};
 ghost use Rattle.word_program.specs.Program.{Source};
 ghost use Rattle.word_program.specs.Values.{input_bounds, AreWithin};
 ghost use Rattle.x86_instr.specs.declared.line.Line.{Line};
@@ -31,6 +32,12 @@ pub fn overflow_is_signed()
 /// words, is a start for inputs that are words within their bounds.
 pub fn stated_state_is_start()
     ensures { (program : Source) (lines : List Line) (inputs : List ℕ) (s : State) → AreParams program.params → AreWords inputs → AreWithin inputs (input_bounds program.params) → IsStated program lines inputs s → IsStart program lines inputs s }
+{}
+
+/// Every function can start: there is a start state of each listing for each program that the rules accept, on
+/// all inputs that are words within their bounds, and the stated one is such a state.
+pub fn functions_can_start()
+    ensures { (program : Source) (lines : List Line) (inputs : List ℕ) → IsAccepted program → AreWords inputs → AreWithin inputs (input_bounds program.params) → (s : State) × IsStated program lines inputs s × IsStart program lines inputs s }
 {}
 
 /// The line at which a listing's run is stuck is one of its lines, and that instruction is stuck in the state
