@@ -30,27 +30,38 @@ fn template_drawn(program: &Program, plan: &Plan, slot: u16, word: u32) -> u8
     (word % count(program, op) as u32) as u8
 }
 
+/// The mutation of this kind, of four, and of this slot, with the place or the template that a word draws.
+#[tactic(auto, unfolding(crate::specs::Mutations::Fits))]
+fn mutation_of(program: &Program, plan: &Plan, kind: u32, slot: u16, word: u32) -> Mutation
+    requires legal { IsLegal program.now plan.now.slots }
+    requires slot { slot < length plan.now.slots }
+    ensures mutation { result ≡ spec.mutation_of program.now plan.now.slots kind slot word }
+    ensures fits { spec.Fits program.now plan.now.slots result }
+{
+    match kind {
+        0 => Mutation::Move {
+            slot,
+            to: place_drawn(program, plan, slot, word),
+        },
+        1 => Mutation::Template {
+            slot,
+            number: template_drawn(program, plan, slot, word),
+        },
+        2 => Mutation::Swap { slot },
+        _ => Mutation::Load { slot },
+    }
+}
+
 /// The mutation of a legal plan that four words draw: the first one its kind, the second its slot, and the third the
 /// place in the slot's window to which it moves, or its template. It takes no memory, and time that grows with the
 /// numbers of slots and operations.
-#[tactic(auto, unfolding(crate::specs::Mutations::drawn))]
+#[tactic(auto, unfolding(crate::specs::Mutations::drawn), using(crate::proofs::FitsDrawn::slot_within))]
 pub fn drawn(program: &Program, plan: &Plan, words: [u32; 4]) -> Mutation
     requires legal { IsLegal program.now plan.now.slots }
     requires some { 0 < length plan.now.slots }
     ensures mutation { result ≡ spec.drawn program.now plan.now.slots words }
     ensures fits { spec.Fits program.now plan.now.slots result }
 {
-    let slot = (words[1] % plan.slots().len() as u32) as u16;
-    match words[0] % 4 {
-        0 => Mutation::Move {
-            slot,
-            to: place_drawn(program, plan, slot, words[2]),
-        },
-        1 => Mutation::Template {
-            slot,
-            number: template_drawn(program, plan, slot, words[2]),
-        },
-        2 => Mutation::Swap { slot },
-        _ => Mutation::Load { slot },
-    }
+    let slot = words[1] % plan.slots().len() as u32;
+    mutation_of(program, plan, words[0] % 4, slot as u16, words[2])
 }
