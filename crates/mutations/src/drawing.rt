@@ -30,6 +30,28 @@ fn template_drawn(program: &Program, plan: &Plan, slot: u16, word: u32) -> u8
     (word % count(program, op) as u32) as u8
 }
 
+/// The mutation of this kind, of four, and of this slot, with the place or the template that a word draws.
+#[tactic(auto, unfolding(crate::specs::Mutations::Fits))]
+fn mutation_of(program: &Program, plan: &Plan, kind: u32, slot: u16, word: u32) -> Mutation
+    requires legal { IsLegal program.now plan.now.slots }
+    requires slot { slot < length plan.now.slots }
+    ensures mutation { result ≡ spec.mutation_of program.now plan.now.slots kind slot word }
+    ensures fits { spec.Fits program.now plan.now.slots result }
+{
+    match kind {
+        0 => Mutation::Move {
+            slot,
+            to: place_drawn(program, plan, slot, word),
+        },
+        1 => Mutation::Template {
+            slot,
+            number: template_drawn(program, plan, slot, word),
+        },
+        2 => Mutation::Swap { slot },
+        _ => Mutation::Load { slot },
+    }
+}
+
 /// The slot that a word draws: a legal plan has a slot for each operation, and a program has an operation.
 #[tactic(auto, using(crate::proofs::FitsDrawn::slot_is, crate::proofs::FitsDrawn::slot_there))]
 fn slot_drawn(program: &Program, plan: &Plan, word: u32) -> u16
@@ -50,16 +72,5 @@ pub fn drawn(program: &Program, plan: &Plan, words: [u32; 4]) -> Mutation
     ensures fits { spec.Fits program.now plan.now.slots result }
 {
     let slot = slot_drawn(program, plan, words[1]);
-    match words[0] % 4 {
-        0 => Mutation::Move {
-            slot,
-            to: place_drawn(program, plan, slot, words[2]),
-        },
-        1 => Mutation::Template {
-            slot,
-            number: template_drawn(program, plan, slot, words[2]),
-        },
-        2 => Mutation::Swap { slot },
-        _ => Mutation::Load { slot },
-    }
+    mutation_of(program, plan, words[0] % 4, slot, words[2])
 }
