@@ -90,8 +90,8 @@ impl Plan {
         self.room
     }
 
-    /// Takes the slot at `from` out, and puts it back so that it stands at `to`. The slots between move up by one
-    /// place.
+    /// Takes the slot at `from` out, and puts it back so that it stands at `to`. The slots between the two places
+    /// move by one.
     #[tactic(auto, unfolding(crate::specs::Plans::moved))]
     pub fn move_slot(&mut self, from: u16, to: u16)
         requires from { from < length self.old.slots }
