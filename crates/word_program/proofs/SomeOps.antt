@@ -1,7 +1,7 @@
 -- That a program has an operation: it has a return, and each word of it is written.
-use Rattle.std.proofs.Common.{◌≡◌, ℕ, ◌+◌, ◌-◌, ◌^◌, ◌≤◌, ◌<◌, true, false, List, [], ◌∷◌, ◌++◌, length, refl, arith, sym, subst, ap, ◌∙◌}
+use Rattle.std.proofs.Common.{◌≡◌, ℕ, ◌-◌, ◌^◌, ◌≤◌, true, false, List, [], ◌∷◌, ◌++◌, length, refl, arith, sym, subst, ap, ◌∙◌}
 use Rattle.std.proofs.lemmas.Bool.Decides.{nat_tests}
-use Rattle.std.specs.Prelude.{Option, Some, None, ◌==◌, unwrap_or, option_map, count_by, slice_get}
+use Rattle.std.specs.Prelude.{Option, Some, None, ◌==◌, unwrap_or, option_map, count_by}
 use Rattle.std.specs.List.{AllByRecursion}
 use Rattle.word_text.specs.declared.fault.Section.{Section}
 use Rattle.word_text.specs.declared.fault.Section.TheVariants.{Returns, Arguments}
@@ -10,7 +10,7 @@ use Rattle.word_program.specs.declared.parameter.Param.{Param}
 use Rattle.word_program.specs.declared.parameter.Role.TheVariants.{Output}
 use Rattle.word_program.specs.declared.operation.Op.{Op}
 use Rattle.word_program.specs.Values.{is_output, is_at, targets_of}
-use Rattle.word_program.specs.Rules.{array_of, datatype_of, no_datatype, param_of, with_param, parameters_in}
+use Rattle.word_program.specs.Rules.{no_datatype, param_of, parameters_in}
 use Rattle.word_program.specs.Accepted.{IsParam, IsOutputWord}
 
 -- a number that is not 0

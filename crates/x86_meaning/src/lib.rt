@@ -23,7 +23,8 @@ mod state;
 pub use cells::Cells;
 pub use execution::step;
 pub use laws::{
-    correct_listing_ends, functions_can_start, overflow_is_signed, stated_state_is_start, stuck_line_is_stuck,
+    correct_listing_ends, functions_can_start, overflow_is_signed, stated_state_is_start,
+    stuck_line_is_stuck,
 };
 pub use listing_run::{Stuck, run};
 pub use state::State;
