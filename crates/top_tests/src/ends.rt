@@ -1,7 +1,7 @@
 //! How a command may end: its status, its exit status and its line, written by hand.
 use search_top::{Status, exit_of, line_of};
 use std::alloc::{AllocError, Global};
-use word_program::Place;
+use word_program::{Place, Section};
 use x86_instr::ListingFault;
 
 /// A status with the names in it as plain text.
@@ -108,6 +108,20 @@ pub const NO_MEMORY: End = End {
     exit: 17,
     line: "out of memory",
 };
+
+/// The end at a fault of a program.
+pub fn program_fault(code: u8, section: Section, item: u32, inner: u32, line: &'static str) -> End {
+    let place = Place {
+        section,
+        item,
+        inner,
+    };
+    End {
+        status: Wanted::Program(code, place),
+        exit: 6,
+        line,
+    }
+}
 
 fn is(status: &Status, wanted: Wanted) -> bool {
     match status {

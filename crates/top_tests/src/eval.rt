@@ -1,8 +1,11 @@
 //! `eval`, called with words, over a shelf that has a program.
 use crate::calls::{Files, ends, ends_at};
-use crate::ends::{DONE, End, MISSING, UNREAD_PROGRAM, UNSAID, USAGE, Wanted};
-use crate::programs::{ADD1, AND2, CHAIN2};
+use crate::ends::{
+    DONE, End, MISSING, NOT_JSON, UNREAD_PROGRAM, UNSAID, USAGE, Wanted, program_fault,
+};
+use crate::programs::{ADD1, AND2, CHAIN2, COPY1, COPY2, MULX1, SUB1};
 use std::test::Fail;
+use word_program::Section;
 
 fn only(program: &str) -> Files<'_> {
     Files { program, asm: "" }
@@ -15,6 +18,16 @@ fn says_the_outputs(rt: HostRuntime) -> Result<(), Fail> {
             ADD1,
             "0,0xffffffffffffffff,1",
             "out1[0] 0x0000000000000000\nout1[1] 0x0000000000000001\n",
+        ),
+        (
+            SUB1,
+            "1,0,0xffffffffffffffff",
+            "out1[0] 0x0000000000000000\nout1[1] 0x0000000000000001\n",
+        ),
+        (
+            MULX1,
+            "0xffffffffffffffff,0xffffffffffffffff",
+            "out1[0] 0x0000000000000001\nout1[1] 0xfffffffffffffffe\n",
         ),
         (AND2, "12,0x0A", "out1[0] 0x0000000000000008\n"),
         (
@@ -93,6 +106,82 @@ fn ends_where_a_file_or_the_output_fails(rt: HostRuntime) -> Result<(), Fail> {
         assert!(rt;
             ends_at(rt.alloc(), only(ADD1), &words, call, end)?,
             "call {call}"
+        );
+    }
+    Ok(())
+}
+
+// Each row has a program, a piece of it, what stands in its place, and the first fault.
+#[test]
+fn refuses_a_program_at_its_first_fault(rt: HostRuntime) -> Result<(), Fail> {
+    for (program, piece, by, end) in [
+        (
+            CHAIN2,
+            r#"["x","arg1[1]""#,
+            r#"["z","arg1[1]""#,
+            program_fault(9, Section::Body, 2, 1, "program fault P09 at body 2 1"),
+        ),
+        (
+            ADD1,
+            r#""arg2","arg3"]"#,
+            r#""arg2","18446744073709551616"]"#,
+            program_fault(11, Section::Body, 0, 3, "program fault P11 at body 0 3"),
+        ),
+        (
+            AND2,
+            r#""&","name":["out1[0]"],"arguments":["arg1[0]","arg2[0]"]"#,
+            r#"">>","name":["out1[0]"],"arguments":["arg1[0]","0x40"]"#,
+            program_fault(12, Section::Body, 0, 2, "program fault P12 at body 0 2"),
+        ),
+        (
+            AND2,
+            r#"["arg1[0]""#,
+            r#"["arg1[00]""#,
+            program_fault(9, Section::Body, 0, 1, "program fault P09 at body 0 1"),
+        ),
+        (
+            COPY1,
+            r#"[{"name":"out1","datatype":"u64[1]"}]"#,
+            "[]",
+            program_fault(15, Section::Top, 0, 0, "program fault P15 at top 0 0"),
+        ),
+        (
+            ADD1,
+            r#""datatype":"u1""#,
+            r#""datatype":"u64","ubound":["2"]"#,
+            program_fault(13, Section::Body, 0, 1, "program fault P13 at body 0 1"),
+        ),
+        (
+            COPY2,
+            "out1[1]",
+            "out1[0]",
+            program_fault(14, Section::Body, 1, 2, "program fault P14 at body 1 2"),
+        ),
+        (
+            COPY2,
+            r#",{"operation":"=","name":["out1[1]"],"arguments":["arg1[1]"]}"#,
+            "",
+            program_fault(
+                14,
+                Section::Returns,
+                0,
+                1,
+                "program fault P14 at returns 0 1",
+            ),
+        ),
+        (ADD1, ADD1, "", NOT_JSON),
+    ] {
+        let faulty = program.replace(rt.alloc(), piece, by)?;
+        assert!(rt;
+            ends(
+                rt.alloc(),
+                only(faulty.as_str()),
+                &["eval", "p.json"],
+                end,
+                1,
+                ""
+            )?,
+            "{by}"
         );
     }
     Ok(())

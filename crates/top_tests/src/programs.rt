@@ -35,6 +35,18 @@ pub const CHAIN2: &str =
 pub const AND2: &str =
     r#"{"operation":"and2","returns":[{"name":"out1","datatype":"u64[1]"}],"arguments":[{"name":"arg1","datatype":"u64[1]"},{"name":"arg2","datatype":"u64[1]"}],"body":[{"operation":"&","name":["out1[0]"],"arguments":["arg1[0]","arg2[0]"]}]}"#;
 
+/// A difference with borrow.
+pub const SUB1: &str =
+    r#"{"operation":"sub1","returns":[{"name":"out1","datatype":"u64[2]"}],"arguments":[{"name":"arg1","datatype":"u1"},{"name":"arg2","datatype":"u64"},{"name":"arg3","datatype":"u64"}],"body":[{"operation":"subborrowx","name":["out1[0]","out1[1]"],"arguments":["arg1","arg2","arg3"]}]}"#;
+
+/// The two words of a product.
+pub const MULX1: &str =
+    r#"{"operation":"mulx1","returns":[{"name":"out1","datatype":"u64[2]"}],"arguments":[{"name":"arg1","datatype":"u64"},{"name":"arg2","datatype":"u64"}],"body":[{"operation":"mulx","name":["out1[0]","out1[1]"],"arguments":["arg1","arg2"]}]}"#;
+
+/// A copy of two words.
+pub const COPY2: &str =
+    r#"{"operation":"copy2","returns":[{"name":"out1","datatype":"u64[2]"}],"arguments":[{"name":"arg1","datatype":"u64[2]"}],"body":[{"operation":"=","name":["out1[0]"],"arguments":["arg1[0]"]},{"operation":"=","name":["out1[1]"],"arguments":["arg1[1]"]}]}"#;
+
 /// A listing for the two carry chains, each in a flag of its own.
 pub const CHAIN2_TEXT: &str = "\
 .intel_syntax noprefix

@@ -89,20 +89,6 @@ fn nested(alloc: Global, depth: usize) -> Result<String, AllocError> {
     format!(in alloc; "{open}{close}")
 }
 
-// The end at a fault of a program.
-fn fault(code: u8, section: Section, item: u32, inner: u32, line: &'static str) -> End {
-    let place = Place {
-        section,
-        item,
-        inner,
-    };
-    End {
-        status: Wanted::Program(code, place),
-        exit: 6,
-        line,
-    }
-}
-
 // Whether a search refuses each of these changes of the program so: a piece of it, and what stands in its place.
 // Every one of them loads the program and does nothing more.
 fn refuses_all(alloc: Global, changes: &[(&str, &str)], end: End) -> Result<bool, AllocError> {
@@ -117,7 +103,7 @@ fn refuses_all(alloc: Global, changes: &[(&str, &str)], end: End) -> Result<bool
 
 #[test]
 fn refuses_another_shape(rt: HostRuntime) -> Result<(), Fail> {
-    let end = fault(1, Section::Top, 0, 0, "program fault P01 at top 0 0");
+    let end = program_fault(1, Section::Top, 0, 0, "program fault P01 at top 0 0");
     let deep = nested(rt.alloc(), 127)?;
     let changes = [
         (COPY1, "null"),
@@ -129,7 +115,7 @@ fn refuses_another_shape(rt: HostRuntime) -> Result<(), Fail> {
         (r#""copy1""#, r#""copy1","operation":7"#),
     ];
     assert!(rt; refuses_all(rt.alloc(), &changes, end)?);
-    let end = fault(
+    let end = program_fault(
         1,
         Section::Arguments,
         0,
@@ -138,7 +124,7 @@ fn refuses_another_shape(rt: HostRuntime) -> Result<(), Fail> {
     );
     let changes = [(r#"u64[1]"}],"body"#, r#"u64[1]","lbound":null}],"body"#)];
     assert!(rt; refuses_all(rt.alloc(), &changes, end)?);
-    let end = fault(1, Section::Body, 0, 0, "program fault P01 at body 0 0");
+    let end = program_fault(1, Section::Body, 0, 0, "program fault P01 at body 0 0");
     let changes = [(r#"["out1[0]"]"#, r#""out1[0]""#)];
     assert!(rt; refuses_all(rt.alloc(), &changes, end)?);
     Ok(())
@@ -146,7 +132,7 @@ fn refuses_another_shape(rt: HostRuntime) -> Result<(), Fail> {
 
 #[test]
 fn refuses_other_names(rt: HostRuntime) -> Result<(), Fail> {
-    let end = fault(2, Section::Top, 0, 0, "program fault P02 at top 0 0");
+    let end = program_fault(2, Section::Top, 0, 0, "program fault P02 at top 0 0");
     let long = "f23456789_123456789_123456789_123456789_123456789_123456789_12345";
     let changes = [
         (r#""copy1""#, r#""""#),
@@ -156,7 +142,7 @@ fn refuses_other_names(rt: HostRuntime) -> Result<(), Fail> {
         ("copy1", long),
     ];
     assert!(rt; refuses_all(rt.alloc(), &changes, end)?);
-    let end = fault(
+    let end = program_fault(
         10,
         Section::Arguments,
         0,
@@ -169,7 +155,7 @@ fn refuses_other_names(rt: HostRuntime) -> Result<(), Fail> {
 
 #[test]
 fn refuses_other_parameters(rt: HostRuntime) -> Result<(), Fail> {
-    let end = fault(
+    let end = program_fault(
         3,
         Section::Arguments,
         0,
@@ -182,7 +168,7 @@ fn refuses_other_parameters(rt: HostRuntime) -> Result<(), Fail> {
         (r#"u64[1]"}],"body"#, r#"u64[01]"}],"body"#),
     ];
     assert!(rt; refuses_all(rt.alloc(), &changes, end)?);
-    let end = fault(
+    let end = program_fault(
         14,
         Section::Returns,
         0,
@@ -196,7 +182,7 @@ fn refuses_other_parameters(rt: HostRuntime) -> Result<(), Fail> {
             end
         )?
     );
-    let end = fault(
+    let end = program_fault(
         14,
         Section::Returns,
         0,
@@ -209,15 +195,15 @@ fn refuses_other_parameters(rt: HostRuntime) -> Result<(), Fail> {
 
 #[test]
 fn refuses_other_operations(rt: HostRuntime) -> Result<(), Fail> {
-    let end = fault(7, Section::Body, 0, 0, "program fault P07 at body 0 0");
+    let end = program_fault(7, Section::Body, 0, 0, "program fault P07 at body 0 0");
     assert!(rt; refuses_all(rt.alloc(), &[(r#""=""#, r#""copy""#)], end)?);
-    let end = fault(8, Section::Body, 0, 0, "program fault P08 at body 0 0");
+    let end = program_fault(8, Section::Body, 0, 0, "program fault P08 at body 0 0");
     let changes = [
         (r#""=""#, r#""+""#),
         (r#""arg1[0]""#, r#""arg1[0]","arg1[0]""#),
     ];
     assert!(rt; refuses_all(rt.alloc(), &changes, end)?);
-    let end = fault(9, Section::Body, 0, 1, "program fault P09 at body 0 1");
+    let end = program_fault(9, Section::Body, 0, 1, "program fault P09 at body 0 1");
     let changes = [
         (r#"u64[1]"}],"body"#, r#"u64"}],"body"#),
         (r#"{"name":"arg1","datatype":"u64[1]"}"#, ""),
@@ -225,7 +211,7 @@ fn refuses_other_operations(rt: HostRuntime) -> Result<(), Fail> {
         (r#""arg1[0]""#, r#""arg1""#),
     ];
     assert!(rt; refuses_all(rt.alloc(), &changes, end)?);
-    let end = fault(14, Section::Body, 0, 2, "program fault P14 at body 0 2");
+    let end = program_fault(14, Section::Body, 0, 2, "program fault P14 at body 0 2");
     assert!(rt; refuses_all(rt.alloc(), &[(r#""out1[0]""#, r#""out1[1]""#)], end)?);
     Ok(())
 }
@@ -233,7 +219,7 @@ fn refuses_other_operations(rt: HostRuntime) -> Result<(), Fail> {
 // What is read, and is no copy of one word: code 7 at the top.
 #[test]
 fn refuses_what_is_not_searched_yet(rt: HostRuntime) -> Result<(), Fail> {
-    let end = fault(7, Section::Top, 0, 0, "program fault P07 at top 0 0");
+    let end = program_fault(7, Section::Top, 0, 0, "program fault P07 at top 0 0");
     let changes = [
         (r#"u64[1]"}],"arg"#, r#"u64[1]","ubound":["0x1"]}],"arg"#),
         (
