@@ -1,6 +1,8 @@
 //! What `search` refuses, with everything left as it was.
 use crate::calls::{WORDS, fails_next, has, search, shelf_with};
-use crate::ends::{End, MISSING, NO_MEMORY, NOT_JSON, TOO_LONG, USAGE, Wanted, is_end};
+use crate::ends::{
+    End, MISSING, NO_MEMORY, NOT_JSON, TOO_LONG, USAGE, Wanted, is_end, program_fault,
+};
 use crate::programs::COPY1;
 use io_ports::Shelf;
 use search_top::Status;
