@@ -5,7 +5,7 @@
 set -eu
 here=$(cd "$(dirname "$0")" && pwd)
 examples=$(cd "$here/../examples" && pwd)
-program=${1:-}
+program=${1:+$(readlink -f -- "$1")}
 
 if ! command -v as >/dev/null 2>&1; then
     echo "assemble: skipped, as is not there"
