@@ -91,6 +91,12 @@ pub const UNREAD_ASM: End = End {
     line: "cannot read p.s",
 };
 
+pub const TOO_LONG_ASM: End = End {
+    status: Wanted::TooLong("p.s", 67_108_864),
+    exit: 4,
+    line: "p.s has more than 67108864 bytes",
+};
+
 pub const NO_RETURN: End = End {
     status: Wanted::NoReturn,
     exit: 9,

@@ -1,6 +1,8 @@
 //! `show`, called with words, over a shelf that has an assembly text.
 use crate::calls::{Files, ends, ends_at};
-use crate::ends::{DONE, End, NO_RETURN, TOO_MANY_LINES, UNREAD_ASM, UNSAID, USAGE, Wanted};
+use crate::ends::{
+    DONE, End, NO_RETURN, TOO_LONG_ASM, TOO_MANY_LINES, UNREAD_ASM, UNSAID, USAGE, Wanted,
+};
 use crate::programs::{CHAIN2_TEXT, COPY1_TEXT};
 use std::test::Fail;
 
@@ -14,6 +16,8 @@ const LOOSE: &str =
 
 const CANONICAL: &str =
     ".intel_syntax noprefix\n.text\n.globl f\nf:\n    mov rax, qword ptr [rsp - 8]\n    lea rcx, [rax + rcx*1]\n    ret\n";
+
+const SHORT: &str = ".intel_syntax noprefix\n.text\n.globl f\nf:\n    ret\n";
 
 fn only(asm: &str) -> Files<'_> {
     Files { program: "", asm }
@@ -100,6 +104,17 @@ fn takes_65536_lines(rt: HostRuntime) -> Result<(), Fail> {
             ""
         )?
     );
+    Ok(())
+}
+
+#[test]
+fn takes_67108864_bytes(rt: HostRuntime) -> Result<(), Fail> {
+    let blank = "\n".repeat(rt.alloc(), 67_108_864 - SHORT.len())?;
+    let most = format!(in rt.alloc(); "{SHORT}{blank}")?;
+    assert_eq!(rt; most.len(), 67_108_864);
+    assert!(rt; ends(rt.alloc(), only(most.as_str()), &WORDS, DONE, 2, SHORT)?);
+    let over = format!(in rt.alloc(); "{most}\n")?;
+    assert!(rt; ends(rt.alloc(), only(over.as_str()), &WORDS, TOO_LONG_ASM, 1, "")?);
     Ok(())
 }
 
