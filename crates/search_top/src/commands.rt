@@ -1,6 +1,6 @@
 ghost use Rattle.std.specs.Prelude.{◌≡◌, ◌⊎◌, ℕ, List, None, codes, map, string_bytes};
 ghost use Rattle.io_ports.specs.Shelf.{Rose, Stays};
-ghost use Rattle.search_top.specs.Words.{command_of};
+ghost use Rattle.search_top.specs.Words.{command_of, command_texts};
 ghost use Rattle.search_top.specs.Search.{IfWriteFault, OnRefusal};
 ghost use Rattle.search_top.specs.Command.{IfCommand, Answers, CommandCalls, OnUsage};
 
@@ -28,8 +28,10 @@ use std::alloc::Global;
 /// [`Status::OutOfBounds`]; [`Status::Stuck`]; and last [`Status::WriteFault`] of standard output.
 /// [`Status::OutOfMemory`] comes only before that.
 pub fn command<S: Shelf>(alloc: Global, words: &[String], shelf: &mut S) -> Status
-    // `Usage` comes exactly where the words are no command, unless there is no memory to read their list.
+    // `Usage` comes exactly where the words are no command. Where only LIST is at fault, it may be that there is no
+    // memory to read it.
     ensures usage { OnUsage result (command_of (map string_bytes words.now) ≡ None) }
+    ensures form { command_texts (map string_bytes words.now) ≡ None → result ≡ Status.Usage }
     ensures unknown { command_of (map string_bytes words.now) ≡ None → (result ≡ Status.Usage) ⊎ (result ≡ Status.OutOfMemory) }
 
     // What each other status says of the files and of what was said.

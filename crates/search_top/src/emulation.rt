@@ -17,7 +17,6 @@ const ARRAY_STEP: u64 = 65_536;
 
 /// The lines of the words that a listing leaves in the output arrays, when it runs from the stated start state
 /// for the program on these inputs, or the status of the command that wants them.
-#[tactic(auto, using(crate::proofs::StatedOutputs::left_outputs))]
 pub fn emulated_lines(
     alloc: Global,
     program: &Program,
