@@ -3,10 +3,12 @@ use Rattle.std.proofs.Common.{◌≡◌, ℕ, Bool, true, false, List, [], ◌�
 use Rattle.std.specs.Str.{bytes_eq}
 use Rattle.std.proofs.lemmas.Slice.Eq.{bytes_eq-Decides}
 use Rattle.x86_instr.specs.declared.operand.Reg.{Reg}
-use Rattle.x86_instr.specs.declared.operand.Reg.TheVariants.{Rax, Rcx, Rdx, Rbx, Rsp, Rbp, Rsi, Rdi, R8, R9, R10, R11, R12, R13, R14, R15}
+use Rattle.x86_instr.specs.declared.operand.Reg.TheVariants.{Rax, Rcx, Rdx, Rbx, Rsp, Rbp, Rsi, Rdi, R8, R9, R10, R11}
+use Rattle.x86_instr.specs.declared.operand.Reg.TheVariants.{R12, R13, R14, R15}
 use Rattle.x86_instr.specs.declared.mnemonic.Mnemonic.{Mnemonic}
 use Rattle.x86_instr.specs.declared.mnemonic.Mnemonic.TheVariants as names
-use Rattle.asm_operands.specs.Names.{reg_text, byte_reg_text, mnemonic_text, registers, mnemonics, with_names, named_in, register_named, byte_register_named, mnemonic_named}
+use Rattle.asm_operands.specs.Names.{reg_text, byte_reg_text, mnemonic_text, registers, mnemonics, with_names, named_in}
+use Rattle.asm_operands.specs.Names.{register_named, byte_register_named, mnemonic_named}
 
 pub register_back : (r : Reg) → register_named (reg_text r) ≡ Some r
 unfolding register_named
@@ -90,11 +92,14 @@ mnemonic_back names.Cmovnz = refl
 mnemonic_back names.Ret = refl
 
 -- what is found has the name
-named_text : {T : Type 0} (name : T → List ℕ) (xs : List T) (text : List ℕ) (x : T) → named_in (with_names name xs) text ≡ Some x → name x ≡ text
+named_text : {T : Type 0} (name : T → List ℕ) (xs : List T) (text : List ℕ) (x : T)
+    → named_in (with_names name xs) text ≡ Some x → name x ≡ text
 named_text name [] text x e = cc
-named_text {T} name (y ∷ ys) text x e = by_first (bytes_eq (name y) text) (λ h. (bytes_eq-Decides (name y) text).0 h) (λ h. named_text name ys text x h) e
+named_text {T} name (y ∷ ys) text x e = by_first (bytes_eq (name y) text) (λ h. (bytes_eq-Decides (name y) text).0 h)
+    (λ h. named_text name ys text x h) e
   where
-    by_first : (b : Bool) → (b ≡ true → name y ≡ text) → (named_in (with_names name ys) text ≡ Some x → name x ≡ text) → cond b (Some y) (named_in (with_names name ys) text) ≡ Some x → name x ≡ text
+    by_first : (b : Bool) → (b ≡ true → name y ≡ text) → (named_in (with_names name ys) text ≡ Some x → name x ≡ text)
+        → cond b (Some y) (named_in (with_names name ys) text) ≡ Some x → name x ≡ text
     by_first true same later e = let is : y ≡ x = cc in ap name (sym is) ∙ same refl
     by_first false same later e = later e
 

@@ -11,7 +11,7 @@ use Rattle.x86_instr.specs.declared.operand.Src.{Src}
 use Rattle.x86_instr.specs.declared.operand.Src.TheVariants as srcs
 use Rattle.x86_instr.specs.Ranges.{is_shift_count, is_scale, is_index_reg}
 use Rattle.asm_tokens.specs.Tokens.{Token, is_spaced}
-use Rattle.asm_tokens.specs.Numbers.{number}
+use Rattle.base.specs.Numbers.{word}
 use Rattle.asm_operands.specs.Names.{reg_text, byte_reg_text}
 use Rattle.asm_operands.specs.Operands.{signed_of, word_of}
 
@@ -31,14 +31,15 @@ IsByteRegister ts r rest = IsToken (byte_reg_text r) ts rest
 pub record IsNumber (ts : List Token) (n : ℕ) (rest : List Token) : Type 0 where
   pub first : Token
   pub is : ts ≡ first ∷ rest
-  pub spelled : number first.text ≡ Some n
+  pub spelled : word first.text ≡ Some n
 
 -- ---- memory
 
 -- `[`, or `qword ptr [`
 pub data IsOpened (ts rest : List Token) : Type 0 where
   bare : IsToken (codes "[") ts rest → IsOpened ts rest
-  named : (a b : List Token) → IsToken (codes "qword") ts a → IsToken (codes "ptr") a b → IsToken (codes "[") b rest → IsOpened ts rest
+  named : (a b : List Token) → IsToken (codes "qword") ts a → IsToken (codes "ptr") a b → IsToken (codes "[") b rest
+      → IsOpened ts rest
 
 -- `*` and a scale; nothing is a scale of 1
 pub data IsScale (ts : List Token) (s : ℕ) (rest : List Token) : Type 0 where
@@ -49,7 +50,8 @@ pub data IsScale (ts : List Token) (s : ℕ) (rest : List Token) : Type 0 where
 abbrev pub IsIndex : List Token → Option Index → List Token → Type 0
 IsIndex ts None rest = ts ≡ rest
 IsIndex ts (Some index) rest =
-    (a : List Token) × (b : List Token) × IsToken (codes "+") ts a × IsRegister a index.reg b × (is_index_reg index.reg ≡ true) × IsScale b index.scale rest
+    (a : List Token) × (b : List Token) × IsToken (codes "+") ts a × IsRegister a index.reg b
+    × (is_index_reg index.reg ≡ true) × IsScale b index.scale rest
 
 -- a number with this sign, from -2^31 to 2^31 - 1
 pub record IsOffset (minus : Bool) (ts : List Token) (d : ℤ) (rest : List Token) : Type 0 where

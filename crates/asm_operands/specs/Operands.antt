@@ -1,7 +1,8 @@
 -- The operands of instructions, as the tokens of a line say them. Each function gives the operand that the
 -- tokens begin with, and the tokens behind it, one form tried after the other. `Grammar` says by relations what
 -- they read.
-use Rattle.std.specs.Prelude.{ℕ, ◌-◌, ◌^◌, ◌%◌, Bool, true, false, List, [], ◌∷◌, Option, Some, None, if◌then◌else◌, option_map, ℤ, pos, neg_ℤ, nat_lt, nat_le, codes}
+use Rattle.std.specs.Prelude.{ℕ, ◌-◌, ◌^◌, ◌%◌, Bool, true, false, List, [], ◌∷◌, Option, Some, None, if◌then◌else◌}
+use Rattle.std.specs.Prelude.{option_map, ℤ, pos, neg_ℤ, nat_lt, nat_le, codes}
 use Rattle.x86_instr.specs.declared.operand.Reg.{Reg}
 use Rattle.x86_instr.specs.declared.operand.Index.{Index}
 use Rattle.x86_instr.specs.declared.operand.Mem.{Mem}
@@ -10,9 +11,9 @@ use Rattle.x86_instr.specs.declared.operand.Rm.TheVariants as rms
 use Rattle.x86_instr.specs.declared.operand.Src.{Src}
 use Rattle.x86_instr.specs.declared.operand.Src.TheVariants as srcs
 use Rattle.x86_instr.specs.Ranges.{is_shift_count, is_scale, is_index_reg}
-use Rattle.asm_tokens.specs.Options.{◌>>=◌, pick, holds}
+use Rattle.base.specs.Options.{◌>>=◌, pick, guard}
 use Rattle.asm_tokens.specs.Tokens.{Token, after, is_spaced}
-use Rattle.asm_tokens.specs.Numbers.{number}
+use Rattle.base.specs.Numbers.{word}
 use Rattle.asm_operands.specs.Names.{register_named, byte_register_named}
 
 unfoldable pub register_at : List Token → Option (Reg × List Token)
@@ -25,11 +26,11 @@ byte_register_at (t ∷ ts) = option_map (λ r. (r, ts)) (byte_register_named t.
 
 unfoldable pub number_at : List Token → Option (ℕ × List Token)
 number_at [] = None
-number_at (t ∷ ts) = option_map (λ n. (n, ts)) (number t.text)
+number_at (t ∷ ts) = option_map (λ n. (n, ts)) (word t.text)
 
 -- the scale behind an index, 1 where none is written
 unfoldable pub scale_at : List Token → Option (ℕ × List Token)
-scale_at ts = pick (after (codes "*") ts) (λ rest. number_at rest >>= (λ n. holds (is_scale n.0) n)) (Some (1, ts))
+scale_at ts = pick (after (codes "*") ts) (λ rest. number_at rest >>= (λ n. guard (is_scale n.0) n)) (Some (1, ts))
 
 unfoldable pub plus_register : List Token → Option (Reg × List Token)
 plus_register ts = after (codes "+") ts >>= register_at
@@ -39,7 +40,7 @@ scaled r ts = scale_at ts >>= (λ s. Some (Some (record { reg = r; scale = s.0 }
 
 -- an index where a register follows a plus
 unfoldable pub index_at : List Token → Option (Option Index × List Token)
-index_at ts = pick (plus_register ts) (λ r. holds (is_index_reg r.0) r >>= (λ r. scaled r.0 r.1)) (Some (None, ts))
+index_at ts = pick (plus_register ts) (λ r. guard (is_index_reg r.0) r >>= (λ r. scaled r.0 r.1)) (Some (None, ts))
 
 -- a number with its sign, from -2^31 to 2^31 - 1
 abbrev pub signed_of : Bool → ℕ → Option ℤ
@@ -61,7 +62,8 @@ displacement_at ts = pick (after (codes "+") ts) (λ rest. offset_at false rest)
 
 -- `[`, before which `qword ptr` may stand
 unfoldable pub opened : List Token → Option (List Token)
-opened ts = pick (after (codes "qword") ts) (λ rest. after (codes "ptr") rest >>= after (codes "[")) (after (codes "[") ts)
+opened ts = pick (after (codes "qword") ts) (λ rest. after (codes "ptr") rest >>= after (codes "["))
+    (after (codes "[") ts)
 
 unfoldable pub memory_at : List Token → Option (Mem × List Token)
 memory_at ts = do
@@ -94,4 +96,4 @@ src_at ts = pick (register_at ts) (λ r. Some (srcs.Reg r.0, r.1))
     (pick (memory_at ts) (λ m. Some (srcs.Mem m.0, m.1)) (small_at ts >>= (λ n. Some (srcs.Imm n.0, n.1))))
 
 unfoldable pub count_at : List Token → Option (ℕ × List Token)
-count_at ts = number_at ts >>= (λ n. holds (is_shift_count n.0) n)
+count_at ts = number_at ts >>= (λ n. guard (is_shift_count n.0) n)

@@ -1,11 +1,12 @@
 ghost use Rattle.std.specs.Prelude.{◌≡◌, option_map};
-ghost use Rattle.asm_tokens.specs.Options.{holds};
+ghost use Rattle.base.specs.Options.{guard};
 ghost use Rattle.asm_tokens.specs.Tokens.{tokens, after, is_spaced};
 ghost use Rattle.x86_instr.specs.Ranges.{is_scale, is_shift_count};
 ghost use Rattle.asm_operands.specs.Operands as spec;
 
 use crate::names::{byte_register_named, register_named};
-use asm_tokens::{next, number};
+use asm_tokens::next;
+use base::word;
 use x86_instr::{Index, IndexReg, Mem, Reg, Rm, Scale, ShiftCount, Src};
 
 /// What follows the first token, where that is the one given.
@@ -53,7 +54,7 @@ fn number_at(text: &[u8]) -> Option<(u64, &[u8])>
     ensures { option_map (λ p. (p.0, tokens p.1.now)) result ≡ spec.number_at (tokens text.now) }
 {
     let first = next(text)?;
-    Some((number(first.text)?, first.rest))
+    Some((word(first.text)?, first.rest))
 }
 
 /// The register or memory operand that a text begins with, and what follows it.
@@ -151,7 +152,7 @@ fn scale_at(text: &[u8]) -> Option<(Scale, &[u8])>
 }
 
 fn scale_of(factor: u64) -> Option<Scale>
-    ensures { result ≡ holds (is_scale factor) factor }
+    ensures { result ≡ guard (is_scale factor) factor }
 {
     if factor > 8 {
         return None;
@@ -160,7 +161,7 @@ fn scale_of(factor: u64) -> Option<Scale>
 }
 
 fn count_of(bits: u64) -> Option<ShiftCount>
-    ensures { result ≡ holds (is_shift_count bits) bits }
+    ensures { result ≡ guard (is_shift_count bits) bits }
 {
     if bits > 63 {
         return None;

@@ -5,7 +5,7 @@ use Rattle.std.specs.Str.{IsUtf8}
 use Rattle.std.proofs.lemmas.Bool.{and_parts}
 use Rattle.std.proofs.lemmas.Bool.Decides.{nat_tests}
 use Rattle.std.proofs.lemmas.Str.{IsUtf8-from_ascii}
-use Rattle.word_text.specs.Texts.{is_name_start, is_name_byte, is_identifier}
+use Rattle.base.specs.Identifiers.{is_name_start, is_name_byte, is_identifier}
 
 start_ascii : (b : ℕ) → is_name_start b ≡ true → b < 128
 start_ascii b h = grind (arith, nat_tests)
@@ -22,7 +22,8 @@ name_ascii : (bs : List ℕ) → is_identifier bs ≡ true → (i : ℕ) → sli
 unfolding is_identifier
 name_ascii [] h i = omega arith
 name_ascii (b ∷ bs) h zero = start_ascii b (and_parts (is_name_start b) _ h).0
-name_ascii (b ∷ bs) h (suc i) = bytes_ascii bs (and_parts (list_all is_name_byte bs) _ (and_parts (is_name_start b) _ h).1).0 i
+name_ascii (b ∷ bs) h (suc i) = bytes_ascii bs
+    (and_parts (list_all is_name_byte bs) _ (and_parts (is_name_start b) _ h).1).0 i
 
 pub is_utf8_name : (bs : List ℕ) → is_identifier bs ≡ true → IsUtf8 bs
 is_utf8_name bs h = IsUtf8-from_ascii bs (name_ascii bs h)

@@ -1,5 +1,6 @@
 -- The tokens of operands as they are written, before the tokens that follow.
-use Rattle.std.proofs.Common.{ℕ, suc, zero, true, false, List, [], ◌∷◌, Option, Some, None, ℤ, pos, negsuc, codes, decimal}
+use Rattle.std.proofs.Common.{ℕ, suc, zero, true, false, List, [], ◌∷◌, Option, Some, None, ℤ, pos, negsuc, codes}
+use Rattle.std.proofs.Common.{decimal}
 use Rattle.x86_instr.specs.declared.operand.Reg.{Reg}
 use Rattle.x86_instr.specs.declared.operand.Index.{Index}
 use Rattle.x86_instr.specs.declared.operand.Mem.{Mem}
@@ -35,10 +36,12 @@ disp_tokens (negsuc n) rest = token true (codes "-") ∷ token true (decimal (su
 
 abbrev pub index_tokens : Option Index → List Token → List Token
 index_tokens None rest = rest
-index_tokens (Some i) rest = token true (codes "+") ∷ token true (reg_text i.reg) ∷ token false (codes "*") ∷ token false (decimal i.scale) ∷ rest
+index_tokens (Some i) rest = token true (codes "+") ∷ token true (reg_text i.reg) ∷ token false (codes "*")
+    ∷ token false (decimal i.scale) ∷ rest
 
 abbrev pub address_tokens : Mem → List Token → List Token
-address_tokens mem rest = token true (codes "[") ∷ token false (reg_text mem.base) ∷ index_tokens mem.index (disp_tokens mem.disp (closing rest))
+address_tokens mem rest = token true (codes "[") ∷ token false (reg_text mem.base)
+    ∷ index_tokens mem.index (disp_tokens mem.disp (closing rest))
 
 abbrev pub mem_tokens : Mem → List Token → List Token
 mem_tokens mem rest = token true (codes "qword") ∷ token true (codes "ptr") ∷ address_tokens mem rest
@@ -71,9 +74,12 @@ operand_tokens (instrs.Mul src) = rm_tokens src []
 operand_tokens (instrs.Imul dst src) = reg_tokens dst (comma_tokens (rm_tokens src []))
 operand_tokens (instrs.Shl dst by) = reg_tokens dst (comma_tokens (number_tokens by []))
 operand_tokens (instrs.Shr dst by) = reg_tokens dst (comma_tokens (number_tokens by []))
-operand_tokens (instrs.Shrd dst src by) = reg_tokens dst (comma_tokens (reg_tokens src (comma_tokens (number_tokens by []))))
-operand_tokens (instrs.Shlx dst src count) = reg_tokens dst (comma_tokens (rm_tokens src (comma_tokens (reg_tokens count []))))
-operand_tokens (instrs.Shrx dst src count) = reg_tokens dst (comma_tokens (rm_tokens src (comma_tokens (reg_tokens count []))))
+operand_tokens (instrs.Shrd dst src by) =
+    reg_tokens dst (comma_tokens (reg_tokens src (comma_tokens (number_tokens by []))))
+operand_tokens (instrs.Shlx dst src count) =
+    reg_tokens dst (comma_tokens (rm_tokens src (comma_tokens (reg_tokens count []))))
+operand_tokens (instrs.Shrx dst src count) =
+    reg_tokens dst (comma_tokens (rm_tokens src (comma_tokens (reg_tokens count []))))
 operand_tokens (instrs.Set cond dst) = byte_reg_tokens dst []
 operand_tokens (instrs.Movzx dst src) = reg_tokens dst (comma_tokens (byte_reg_tokens src []))
 operand_tokens (instrs.Cmov cond dst src) = reg_tokens dst (comma_tokens (rm_tokens src []))

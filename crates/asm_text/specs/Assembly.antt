@@ -29,7 +29,8 @@ displacement_text (negsuc n) = codes " - " ++ decimal (suc n)
 
 -- [base + index * scale + displacement]
 unfoldable pub address_text : Mem → List ℕ
-address_text mem = (codes "[" ++ reg_text mem.base) ++ (index_text mem.index ++ (displacement_text mem.disp ++ codes "]"))
+address_text mem = (codes "[" ++ reg_text mem.base)
+    ++ (index_text mem.index ++ (displacement_text mem.disp ++ codes "]"))
 
 unfoldable pub mem_text : Mem → List ℕ
 mem_text mem = codes "qword ptr " ++ address_text mem

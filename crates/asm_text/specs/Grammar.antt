@@ -2,7 +2,7 @@
 -- is its mnemonic and its operands with commas, the destination first (Intel Software Developer's Manual,
 -- volume 2, section 3.1.1.1; the directives are those of the GNU assembler's manual).
 use Rattle.std.specs.Prelude.{◌≡◌, ◌<◌, ℕ, true, false, List, [], ◌∷◌, map, Option, Some, None, codes}
-use Rattle.word_text.specs.Texts.{is_identifier}
+use Rattle.base.specs.Identifiers.{is_identifier}
 use Rattle.x86_instr.specs.declared.operand.Reg.{Reg}
 use Rattle.x86_instr.specs.declared.operand.Mem.{Mem}
 use Rattle.x86_instr.specs.declared.operand.Rm.{Rm}
@@ -11,7 +11,7 @@ use Rattle.x86_instr.specs.declared.instr.Instr.{Instr}
 use Rattle.x86_instr.specs.declared.instr.Instr.TheVariants as instrs
 use Rattle.x86_instr.specs.Mnemonics.{mnemonic_of}
 use Rattle.asm_tokens.specs.Tokens.{Token, token, tokens, is_spaced}
-use Rattle.asm_tokens.specs.Numbers.{numeral}
+use Rattle.base.specs.Numbers.{numeral}
 use Rattle.asm_tokens.specs.Lines.{code_part, comment_part}
 use Rattle.asm_operands.specs.Names.{mnemonic_text}
 use Rattle.asm_operands.specs.Grammar.{IsToken, IsRegister, IsByteRegister, IsMemory, IsRm, IsSrc, IsWide, IsCount}

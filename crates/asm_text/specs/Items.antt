@@ -1,12 +1,13 @@
 -- What one line of a text is, whatever stands before it, as the code reads it. `Grammar` says it by a relation.
-use Rattle.std.specs.Prelude.{ℕ, Bool, false, not, ◌&&◌, List, [], ◌∷◌, Option, Some, None, if◌then◌else◌, nat_lt, codes}
-use Rattle.word_text.specs.Texts.{is_identifier}
+use Rattle.std.specs.Prelude.{ℕ, Bool, false, not, ◌&&◌, List, [], ◌∷◌, Option, Some, None, if◌then◌else◌, nat_lt}
+use Rattle.std.specs.Prelude.{codes}
+use Rattle.base.specs.Identifiers.{is_identifier}
 use Rattle.x86_instr.specs.declared.line.Line.{Line}
-use Rattle.asm_tokens.specs.Options.{◌>>=◌, pick, holds}
+use Rattle.base.specs.Options.{◌>>=◌, pick, guard}
 use Rattle.asm_tokens.specs.Tokens.{Token, tokens, after, is_spaced}
-use Rattle.asm_tokens.specs.Numbers.{comment_number}
+use Rattle.asm_tokens.specs.Comments.{comment_number}
 use Rattle.asm_tokens.specs.Lines.{code_part, comment_part}
-use Rattle.asm_text.specs.Rows.{is_end, instr_in}
+use Rattle.asm_text.specs.Instructions.{is_end, instr_in}
 
 -- a line with nothing but blanks and a comment, one of the four header lines, or an instruction
 pub data Item : Type 0 where
@@ -19,12 +20,12 @@ pub data Item : Type 0 where
 
 -- the operation that a comment names: a decimal number below 2,048, or none
 unfoldable pub owner_in : List ℕ → Option ℕ
-owner_in comment = comment_number comment >>= (λ n. holds (nat_lt n 2048) n)
+owner_in comment = comment_number comment >>= (λ n. guard (nat_lt n 2048) n)
 
 -- an identifier that the tokens begin with, and the tokens behind it
 unfoldable pub name_at : List Token → Option (List ℕ × List Token)
 name_at [] = None
-name_at (t ∷ ts) = holds (is_identifier t.text) (t.text, ts)
+name_at (t ∷ ts) = guard (is_identifier t.text) (t.text, ts)
 
 -- `.intel_syntax noprefix`
 unfoldable pub syntax_rest : List Token → Option (List Token)
@@ -39,7 +40,7 @@ is_text_line ts = pick (after (codes ".text") ts) is_end false
 
 -- `.globl NAME`
 unfoldable pub global_in : List Token → Option (List ℕ)
-global_in ts = after (codes ".globl") ts >>= name_at >>= (λ n. holds (is_end n.1) n.0)
+global_in ts = after (codes ".globl") ts >>= name_at >>= (λ n. guard (is_end n.1) n.0)
 
 -- the tokens are a colon before which no blank stands
 unfoldable pub is_colon : List Token → Bool
@@ -47,7 +48,7 @@ is_colon ts = not (is_spaced ts) && pick (after (codes ":") ts) is_end false
 
 -- `NAME:`
 unfoldable pub label_in : List Token → Option (List ℕ)
-label_in ts = name_at ts >>= (λ n. holds (is_colon n.1) n.0)
+label_in ts = name_at ts >>= (λ n. guard (is_colon n.1) n.0)
 
 unfoldable pub line_in : List Token → List ℕ → Option Line
 line_in ts comment = instr_in ts >>= (λ i. Some (record { instr = i; owner = owner_in comment }))
@@ -61,4 +62,5 @@ full_item ts comment =
     (pick (label_in ts) (λ name. Some (label name)) (line_in ts comment >>= (λ line. Some (code line)))))
 
 unfoldable pub item_in : List ℕ → Option Item
-item_in line = if is_end (tokens (code_part line)) then Some blank else full_item (tokens (code_part line)) (comment_part line)
+item_in line = if is_end (tokens (code_part line)) then Some blank else
+    full_item (tokens (code_part line)) (comment_part line)

@@ -7,7 +7,7 @@ use Rattle.asm_text.specs.Reading.{read_text}
 use Rattle.asm_text.specs.Texts.{Stands}
 use Rattle.x86_instr.specs.Fits.{FitsLines}
 use Rattle.asm_text.specs.Assembly.{text_of}
-use Rattle.word_text.specs.Texts.{is_identifier}
+use Rattle.base.specs.Identifiers.{is_identifier}
 
 -- what is read stands there
 abbrev pub ReadStands : Type 0

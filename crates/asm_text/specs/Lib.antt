@@ -1,5 +1,5 @@
 pub mod Assembly
-pub mod Rows
+pub mod Instructions
 pub mod Items
 pub mod Grammar
 pub mod Reading

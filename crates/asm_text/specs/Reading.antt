@@ -4,7 +4,7 @@ use Rattle.std.specs.Str.{bytes_eq}
 use Rattle.std.specs.Str.Lines.{lines}
 use Rattle.x86_instr.specs.declared.line.Line.{Line}
 use Rattle.x86_instr.specs.Listings.{NamedLines}
-use Rattle.asm_tokens.specs.Options.{◌>>=◌, pick}
+use Rattle.base.specs.Options.{◌>>=◌, pick}
 use Rattle.asm_tokens.specs.Whole.{read_lines}
 use Rattle.asm_text.specs.Items.{Item, blank, syntax_line, text_line, global, label, code, item_in}
 
@@ -19,33 +19,33 @@ pub data Stage : Type 0 where
 abbrev pub labelled : List ℕ → List ℕ → Option Stage
 labelled name other = if bytes_eq name other then Some (body name) else None
 
-abbrev pub moved : Stage → Item → Option Stage
-moved s blank = Some s
-moved start syntax_line = Some syntax
-moved syntax text_line = Some text
-moved text (global name) = Some (named name)
-moved (named name) (label other) = labelled name other
-moved (body name) (code line) = Some (body name)
-moved s item = None
+abbrev pub next_stage : Stage → Item → Option Stage
+next_stage s blank = Some s
+next_stage start syntax_line = Some syntax
+next_stage syntax text_line = Some text
+next_stage text (global name) = Some (named name)
+next_stage (named name) (label other) = labelled name other
+next_stage (body name) (code line) = Some (body name)
+next_stage s item = None
 
 abbrev pub grown : List Line → Item → List Line
 grown found (code line) = found ++ line ∷ []
 grown found item = found
 
-pub record State : Type 0 where
+pub record Progress : Type 0 where
   pub stage : Stage
   pub found : List Line
 
-abbrev pub state : Stage → List Line → State
+abbrev pub state : Stage → List Line → Progress
 state stage found = record { stage = stage; found = found }
 
 abbrev pub named_lines : List ℕ → List Line → NamedLines
 named_lines name found = record { name = name; lines = found }
 
-abbrev pub step_by : State → Item → Option State
-step_by s item = pick (moved s.stage item) (λ t. Some (state t (grown s.found item))) None
+abbrev pub step_by : Progress → Item → Option Progress
+step_by s item = pick (next_stage s.stage item) (λ t. Some (state t (grown s.found item))) None
 
-abbrev pub step : State → List ℕ → Option State
+abbrev pub step : Progress → List ℕ → Option Progress
 step s line = item_in line >>= step_by s
 
 abbrev pub body_name : Stage → Option (List ℕ)
@@ -55,7 +55,7 @@ body_name text = None
 body_name (named name) = None
 body_name (body name) = Some name
 
-abbrev pub done : State → Option NamedLines
+abbrev pub done : Progress → Option NamedLines
 done s = body_name s.stage >>= (λ name. Some (named_lines name s.found))
 
 -- the name and the lines of a text, or the number of its first faulty line

@@ -38,5 +38,6 @@ pub record Stands (lines : List (List ℕ)) (v : NamedLines) : Type 0 where
 abbrev pub Refuses : List (List ℕ) → TextFault → Type 0
 Refuses lines (faults.Line n) = IsFirstFault Stands lines n
 Refuses lines faults.TooLong = (v : NamedLines) × Stands lines v × (65536 < length v.lines)
-Refuses lines faults.NoReturn = (v : NamedLines) × Stands lines v × (length v.lines ≤ 65536) × (ends_at_ret v.lines ≡ false)
+Refuses lines faults.NoReturn = (v : NamedLines) × Stands lines v × (length v.lines ≤ 65536)
+    × (ends_at_ret v.lines ≡ false)
 Refuses lines faults.Memory = Unit {0}

@@ -1,15 +1,15 @@
 ghost use Rattle.std.specs.Prelude.{◌≡◌, option_map};
-ghost use Rattle.std.specs.List.{list_all};
-ghost use Rattle.asm_tokens.specs.Options.{holds};
+ghost use Rattle.base.specs.Options.{guard};
 ghost use Rattle.asm_tokens.specs.Tokens.{tokens};
-ghost use Rattle.word_text.specs.Texts.{is_name_start, is_name_byte, is_identifier};
+ghost use Rattle.base.specs.Identifiers as identifiers;
 ghost use Rattle.asm_text.specs.Items as spec;
 ghost use Rattle.asm_text.specs.Views.{item_view};
 
+use crate::instructions::instr_in;
 use crate::parts::is_end;
-use crate::rows::instr_in;
 use asm_operands::{after, is_spaced};
 use asm_tokens::{comment_number, next, split_comment};
+use base::is_identifier;
 use x86_instr::{Line, Owner};
 
 /// What one line of a text is, whatever stands before it.
@@ -154,7 +154,7 @@ fn name_at(text: &[u8]) -> Option<(&str, &[u8])>
 /// The text, where it is an identifier.
 #[tactic(auto, using(crate::proofs::Identifiers::is_utf8_name))]
 fn identifier(text: &[u8]) -> Option<&str>
-    ensures { option_map (λ name. name.now) result ≡ holds (is_identifier text.now) text.now }
+    ensures { option_map (λ name. name.now) result ≡ guard (identifiers.is_identifier text.now) text.now }
 {
     if !is_identifier(text) {
         return None;
@@ -163,33 +163,4 @@ fn identifier(text: &[u8]) -> Option<&str>
         Ok(name) => Some(name),
         Err(_) => None,
     }
-}
-
-/// A letter or `_`, then letters, digits or `_`, at most 64 bytes, and not `_` alone.
-#[tactic(auto, unfolding(word_text::specs::Texts::is_identifier))]
-fn is_identifier(text: &[u8]) -> bool
-    ensures { result ≡ is_identifier text.now }
-{
-    let Some((first, rest)) = text.split_first() else {
-        return false;
-    };
-    is_name_start(*first) && are_name_bytes(rest) && text.len() <= 64 && text != b"_".as_slice()
-}
-
-fn are_name_bytes(text: &[u8]) -> bool
-    ensures { result ≡ list_all is_name_byte text.now }
-{
-    text.iter().all(|byte| is_name_byte(*byte))
-}
-
-fn is_name_start(byte: u8) -> bool
-    ensures { result ≡ is_name_start byte }
-{
-    byte.is_ascii_alphabetic() || byte == b'_'
-}
-
-fn is_name_byte(byte: u8) -> bool
-    ensures { result ≡ is_name_byte byte }
-{
-    byte.is_ascii_alphanumeric() || byte == b'_'
 }

@@ -11,11 +11,11 @@
 #![tactic(auto)]
 
 mod fault;
+mod instructions;
 mod items;
 mod laws;
 mod parts;
 mod reading;
-mod rows;
 mod write_operands;
 mod writing;
 

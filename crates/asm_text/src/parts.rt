@@ -1,6 +1,6 @@
 ghost use Rattle.std.specs.Prelude.{◌≡◌, option_map};
 ghost use Rattle.asm_tokens.specs.Tokens.{tokens};
-ghost use Rattle.asm_text.specs.Rows as spec;
+ghost use Rattle.asm_text.specs.Instructions as spec;
 
 use asm_operands::{
     after, byte_register_at, count_at, is_spaced, memory_at, register_at, rm_at, src_at, wide_at,
@@ -15,7 +15,7 @@ pub fn is_end(text: &[u8]) -> bool
 }
 
 /// The operands, which a blank parts from the mnemonic.
-#[tactic(auto, unfolding(crate::specs::Rows::operands))]
+#[tactic(auto, unfolding(crate::specs::Instructions::operands))]
 pub fn operands(text: &[u8]) -> Option<&[u8]>
     ensures { option_map (λ rest. tokens rest.now) result ≡ spec.operands (tokens text.now) }
 {
@@ -25,7 +25,7 @@ pub fn operands(text: &[u8]) -> Option<&[u8]>
     Some(text)
 }
 
-#[tactic(auto, unfolding(crate::specs::Rows::register_comma))]
+#[tactic(auto, unfolding(crate::specs::Instructions::register_comma))]
 pub fn register_comma(text: &[u8]) -> Option<(Reg, &[u8])>
     ensures { option_map (λ p. (p.0, tokens p.1.now)) result ≡ spec.register_comma (tokens text.now) }
 {
@@ -34,14 +34,14 @@ pub fn register_comma(text: &[u8]) -> Option<(Reg, &[u8])>
 }
 
 /// The destination register, behind which a comma stands.
-#[tactic(auto, unfolding(crate::specs::Rows::destination))]
+#[tactic(auto, unfolding(crate::specs::Instructions::destination))]
 pub fn destination(text: &[u8]) -> Option<(Reg, &[u8])>
     ensures { option_map (λ p. (p.0, tokens p.1.now)) result ≡ spec.destination (tokens text.now) }
 {
     register_comma(operands(text)?)
 }
 
-#[tactic(auto, unfolding(crate::specs::Rows::last_register))]
+#[tactic(auto, unfolding(crate::specs::Instructions::last_register))]
 pub fn last_register(text: &[u8]) -> Option<Reg>
     ensures { result ≡ spec.last_register (tokens text.now) }
 {
@@ -52,7 +52,7 @@ pub fn last_register(text: &[u8]) -> Option<Reg>
     Some(operand)
 }
 
-#[tactic(auto, unfolding(crate::specs::Rows::last_byte_register))]
+#[tactic(auto, unfolding(crate::specs::Instructions::last_byte_register))]
 pub fn last_byte_register(text: &[u8]) -> Option<Reg>
     ensures { result ≡ spec.last_byte_register (tokens text.now) }
 {
@@ -63,7 +63,7 @@ pub fn last_byte_register(text: &[u8]) -> Option<Reg>
     Some(operand)
 }
 
-#[tactic(auto, unfolding(crate::specs::Rows::last_memory))]
+#[tactic(auto, unfolding(crate::specs::Instructions::last_memory))]
 pub fn last_memory(text: &[u8]) -> Option<Mem>
     ensures { result ≡ spec.last_memory (tokens text.now) }
 {
@@ -76,7 +76,7 @@ pub fn last_memory(text: &[u8]) -> Option<Mem>
     Some(operand)
 }
 
-#[tactic(auto, unfolding(crate::specs::Rows::last_rm))]
+#[tactic(auto, unfolding(crate::specs::Instructions::last_rm))]
 pub fn last_rm(text: &[u8]) -> Option<Rm>
     ensures { result ≡ spec.last_rm (tokens text.now) }
 {
@@ -89,7 +89,7 @@ pub fn last_rm(text: &[u8]) -> Option<Rm>
     Some(operand)
 }
 
-#[tactic(auto, unfolding(crate::specs::Rows::last_src))]
+#[tactic(auto, unfolding(crate::specs::Instructions::last_src))]
 pub fn last_src(text: &[u8]) -> Option<Src>
     ensures { result ≡ spec.last_src (tokens text.now) }
 {
@@ -102,7 +102,7 @@ pub fn last_src(text: &[u8]) -> Option<Src>
     Some(operand)
 }
 
-#[tactic(auto, unfolding(crate::specs::Rows::last_count))]
+#[tactic(auto, unfolding(crate::specs::Instructions::last_count))]
 pub fn last_count(text: &[u8]) -> Option<ShiftCount>
     ensures { result ≡ spec.last_count (tokens text.now) }
 {
@@ -115,7 +115,7 @@ pub fn last_count(text: &[u8]) -> Option<ShiftCount>
     Some(operand)
 }
 
-#[tactic(auto, unfolding(crate::specs::Rows::last_wide))]
+#[tactic(auto, unfolding(crate::specs::Instructions::last_wide))]
 pub fn last_wide(text: &[u8]) -> Option<u64>
     ensures { result ≡ spec.last_wide (tokens text.now) }
 {
@@ -126,7 +126,7 @@ pub fn last_wide(text: &[u8]) -> Option<u64>
     Some(operand)
 }
 
-#[tactic(auto, unfolding(crate::specs::Rows::register_rm))]
+#[tactic(auto, unfolding(crate::specs::Instructions::register_rm))]
 pub fn register_rm(text: &[u8]) -> Option<(Reg, Rm)>
     ensures { result ≡ spec.register_rm (tokens text.now) }
 {
@@ -134,7 +134,7 @@ pub fn register_rm(text: &[u8]) -> Option<(Reg, Rm)>
     Some((dst, last_rm(rest)?))
 }
 
-#[tactic(auto, unfolding(crate::specs::Rows::register_count))]
+#[tactic(auto, unfolding(crate::specs::Instructions::register_count))]
 pub fn register_count(text: &[u8]) -> Option<(Reg, ShiftCount)>
     ensures { result ≡ spec.register_count (tokens text.now) }
 {
@@ -142,7 +142,7 @@ pub fn register_count(text: &[u8]) -> Option<(Reg, ShiftCount)>
     Some((dst, last_count(rest)?))
 }
 
-#[tactic(auto, unfolding(crate::specs::Rows::counted))]
+#[tactic(auto, unfolding(crate::specs::Instructions::counted))]
 pub fn counted(text: &[u8]) -> Option<(Reg, Rm, Reg)>
     ensures { result ≡ spec.counted (tokens text.now) }
 {

@@ -1,4 +1,5 @@
-ghost use Rattle.std.specs.Prelude.{◌≡◌, ◌<◌, ◌≤◌, ◌^◌, true, ◌-◌, ◌++◌, ◌∷◌, [], length, option_map, OnOk, OnErr, IfOk, IfErr, MatchResult, Ok, Err};
+ghost use Rattle.std.specs.Prelude.{◌≡◌, ◌<◌, ◌≤◌, ◌^◌, true, ◌-◌, ◌++◌, ◌∷◌, [], length, option_map, OnOk, OnErr};
+ghost use Rattle.std.specs.Prelude.{IfOk, IfErr, MatchResult, Ok, Err};
 ghost use Rattle.x86_instr.specs.Listings.{ends_at_ret, listing_of};
 ghost use Rattle.asm_text.specs.Reading as spec;
 ghost use Rattle.asm_text.specs.Views.{item_view, stage_view};
@@ -84,13 +85,13 @@ fn read_text(alloc: Global, bytes: &[u8]) -> Result<Found, TextFault>
         let Some(item) = item_in(cut.first) else {
             return Err(TextFault::Line(number));
         };
-        let Some(moved) = moved(stage, &item) else {
+        let Some(next_stage) = next_stage(stage, &item) else {
             return Err(TextFault::Line(number));
         };
         if keep(&mut lines, &item).is_err() {
             return Err(TextFault::Memory);
         }
-        stage = moved;
+        stage = next_stage;
         rest = cut.rest;
         number += 1;
     }
@@ -109,8 +110,8 @@ fn with_name(alloc: Global, name: &str, lines: Lines) -> Result<Found, TextFault
     }
 }
 
-fn moved<'a>(stage: Stage<'a>, item: &Item<'a>) -> Option<Stage<'a>>
-    ensures { option_map stage_view result ≡ spec.moved (stage_view stage.entry) (item_view item.now) }
+fn next_stage<'a>(stage: Stage<'a>, item: &Item<'a>) -> Option<Stage<'a>>
+    ensures { option_map stage_view result ≡ spec.next_stage (stage_view stage.entry) (item_view item.now) }
 {
     match (stage, item) {
         (stage, Item::Blank) => Some(stage),

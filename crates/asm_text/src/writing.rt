@@ -2,7 +2,7 @@ ghost use Rattle.std.specs.Prelude.{◌≡◌, ◌++◌, true, IfOk, OnOk, strin
 ghost use Rattle.std.specs.List.{flat_map};
 ghost use Rattle.asm_operands.specs.Names.{reg_text};
 ghost use Rattle.std.specs.Str.Lines.{lines};
-ghost use Rattle.word_text.specs.Texts.{is_identifier};
+ghost use Rattle.base.specs.Identifiers.{is_identifier};
 ghost use Rattle.x86_instr.specs.Fits.{FitsLines};
 ghost use Rattle.asm_text.specs.Assembly as spec;
 ghost use Rattle.asm_text.specs.Texts.{Stands};
@@ -20,7 +20,8 @@ use x86_instr::{Instr, Line, Listing, Owner, Reg, Rm, mnemonic_of};
 /// an identifier, the text stands for the listing, and for no other one. The one error is want of memory.
 pub fn write(alloc: Global, listing: &Listing) -> Result<Vec<u8>, AllocError>
     ensures text { IfOk result (λ text. text.items ≡ spec.text_of listing.now) }
-    ensures stands { IfOk result (λ text. is_identifier listing.entry.now.name ≡ true → Stands (lines text.items) listing.entry.now) }
+    ensures stands { IfOk result (λ text. is_identifier listing.entry.now.name ≡ true
+        → Stands (lines text.items) listing.entry.now) }
 {
     let text = text_of(alloc, listing)?;
     Ok(text)
@@ -138,28 +139,32 @@ fn push_operands(text: &mut String, instr: Instr) -> Result<(), AllocError>
 }
 
 fn push_reg_rm(text: &mut String, dst: Reg, src: Rm) -> Result<(), AllocError>
-    ensures { OnOk result (string_bytes text.new ≡ string_bytes text.old ++ (spec.first (reg_text dst) ++ spec.next (spec.rm_text src))) }
+    ensures { OnOk result (string_bytes text.new ≡ string_bytes text.old
+        ++ (spec.first (reg_text dst) ++ spec.next (spec.rm_text src))) }
 {
     push_first(text, register_name(dst))?;
     push_next_rm(text, src)
 }
 
 fn push_regs(text: &mut String, a: Reg, b: Reg) -> Result<(), AllocError>
-    ensures { OnOk result (string_bytes text.new ≡ string_bytes text.old ++ (spec.first (reg_text a) ++ spec.next (reg_text b))) }
+    ensures { OnOk result (string_bytes text.new ≡ string_bytes text.old
+        ++ (spec.first (reg_text a) ++ spec.next (reg_text b))) }
 {
     push_first(text, register_name(a))?;
     push_next(text, register_name(b))
 }
 
 fn push_reg_number(text: &mut String, dst: Reg, number: u64) -> Result<(), AllocError>
-    ensures { OnOk result (string_bytes text.new ≡ string_bytes text.old ++ (spec.first (reg_text dst) ++ spec.next (decimal number))) }
+    ensures { OnOk result (string_bytes text.new ≡ string_bytes text.old
+        ++ (spec.first (reg_text dst) ++ spec.next (decimal number))) }
 {
     push_first(text, register_name(dst))?;
     push_next_number(text, number)
 }
 
 fn push_counted(text: &mut String, dst: Reg, src: Rm, count: Reg) -> Result<(), AllocError>
-    ensures { OnOk result (string_bytes text.new ≡ string_bytes text.old ++ (spec.first (reg_text dst) ++ (spec.next (spec.rm_text src) ++ spec.next (reg_text count)))) }
+    ensures { OnOk result (string_bytes text.new ≡ string_bytes text.old
+        ++ (spec.first (reg_text dst) ++ (spec.next (spec.rm_text src) ++ spec.next (reg_text count)))) }
 {
     push_first(text, register_name(dst))?;
     push_next_rm(text, src)?;

@@ -1,5 +1,6 @@
 -- What is known of a number that is written in decimal.
-use Rattle.std.proofs.Common.{◌≡◌, ℕ, ◌<◌, ◌≤◌, ◌^◌, true, false, ◌==◌, List, [], ◌∷◌, length, Some, refl, arith, decimal}
+use Rattle.std.proofs.Common.{◌≡◌, ℕ, ◌<◌, ◌≤◌, ◌^◌, true, false, ◌==◌, List, [], ◌∷◌, length, Some, refl, arith}
+use Rattle.std.proofs.Common.{decimal}
 use Rattle.std.specs.List.{list_all}
 use Rattle.std.specs.Char.{digit_value}
 use Rattle.std.specs.Str.Parse.{AllDigits, digits_value}
@@ -8,7 +9,7 @@ use Rattle.std.proofs.lemmas.Bool.Decides.{nat_tests}
 use Rattle.std.proofs.lemmas.Fmt.{decimal_is_IsNumeral}
 use Rattle.std.proofs.lemmas.Str.Parse.{digit_from_value}
 use Rattle.asm_tokens.specs.Tokens.{is_word_byte}
-use Rattle.asm_tokens.specs.Numbers.{all_digits, numeral, number, is_hex}
+use Rattle.base.specs.Numbers.{all_digits, numeral, word as word_in, is_hex}
 use Rattle.asm_tokens.proofs.Spell.{is_word}
 
 -- the text begins with a digit, is a word, and is read as the number
@@ -20,10 +21,11 @@ pub record Written (n : ℕ) (text : List ℕ) : Type 0 where
   pub high : first ≤ 57
   pub word : is_word text ≡ true
   pub ten : numeral 10 text ≡ Some n
-  pub value : number text ≡ Some n
+  pub value : word_in text ≡ Some n
 
 digit_word : (c : ℕ) → digit_value c < 10 → is_word_byte c ≡ true
-digit_word c h = let r = digit_from_value c h in let low : 48 ≤ c = r.0 in let high : c ≤ 57 = r.1 in grind (arith, nat_tests)
+digit_word c h = let r = digit_from_value c h in let low : 48 ≤ c = r.0 in let high : c ≤ 57 = r.1 in
+    grind (arith, nat_tests)
 
 all_tests : (ds : List ℕ) → AllDigits 10 ds → all_digits 10 ds ≡ true
 all_tests [] h = refl
@@ -41,11 +43,13 @@ not_hex [] h = refl
 not_hex (c ∷ []) h = and_right (c == 48) false refl
 not_hex (c ∷ d ∷ ds) h = and_right (c == 48) (d == 120) (no_x d h.1.0)
 
-tens : (c : ℕ) (cs : List ℕ) (n : ℕ) → n < 2 ^ 64 → AllDigits 10 (c ∷ cs) → digits_value 10 (c ∷ cs) ≡ n → numeral 10 (c ∷ cs) ≡ Some n
+tens : (c : ℕ) (cs : List ℕ) (n : ℕ) → n < 2 ^ 64 → AllDigits 10 (c ∷ cs) → digits_value 10 (c ∷ cs) ≡ n
+    → numeral 10 (c ∷ cs) ≡ Some n
 tens c cs n fits all same = rw (all_tests (c ∷ cs) all, same, lt-ltb n (2 ^ 64) fits) refl
 
-from_digits : (text : List ℕ) (n : ℕ) → n < 2 ^ 64 → 0 < length text → AllDigits 10 text → digits_value 10 text ≡ n → Written n text
-unfolding number
+from_digits : (text : List ℕ) (n : ℕ) → n < 2 ^ 64 → 0 < length text → AllDigits 10 text → digits_value 10 text ≡ n
+    → Written n text
+unfolding word_in
 from_digits [] n fits some all same = absurd (omega arith)
 from_digits (c ∷ cs) n fits some all same =
     let r = digit_from_value c all.0 in

@@ -1,5 +1,6 @@
 -- The first token of a text.
-use Rattle.std.proofs.Common.{◌≡◌, ℕ, ◌+◌, ◌<◌, Bool, true, false, List, [], ◌∷◌, length, take, drop, refl, ap, ◌∙◌, inl, inr, arith, suc, nat_lt}
+use Rattle.std.proofs.Common.{◌≡◌, ℕ, ◌+◌, ◌<◌, Bool, true, false, List, [], ◌∷◌, length, take, drop, refl, ap, ◌∙◌}
+use Rattle.std.proofs.Common.{inl, inr, arith, suc, nat_lt}
 use Rattle.std.specs.List.{prefix_len}
 use Rattle.std.proofs.lemmas.List.{nil_from_length}
 use Rattle.std.proofs.lemmas.Bool.{cases_Bool, lt-ltb}
@@ -23,10 +24,16 @@ not_goes_on_blank (t ∷ ts) = refl
 
 pub not_goes_on : (c : ℕ) (cs : List ℕ) → is_word_byte c ≡ false → goes_on (tokens (c ∷ cs)) ≡ false
 unfolding tokens
-not_goes_on c cs h = elim (cases_Bool (is_blank c)) [ inl y ↦ rw y (not_goes_on_blank (tokens cs)) | inr n ↦ rw (n, h) (rw h refl) ]
+not_goes_on c cs h = elim (cases_Bool (is_blank c)) [
+  | inl y ↦ rw y (not_goes_on_blank (tokens cs))
+  | inr n ↦
+      rw (n, h) (rw h refl)
+]
 
 -- a word goes as far as bytes of words do
-pub word_first : (b : ℕ) (bs : List ℕ) → is_word_byte b ≡ true → tokens (b ∷ bs) ≡ token false (b ∷ take (prefix_len is_word_byte bs) bs) ∷ tokens (drop (prefix_len is_word_byte bs) bs)
+pub word_first : (b : ℕ) (bs : List ℕ) → is_word_byte b ≡ true
+    → tokens (b ∷ bs) ≡ token false (b ∷ take (prefix_len is_word_byte bs) bs)
+    ∷ tokens (drop (prefix_len is_word_byte bs) bs)
 unfolding tokens
 word_first b [] h = rw (word_no_blank b h, h) refl
 word_first b (c ∷ cs) h = elim (cases_Bool (is_word_byte c)) [
@@ -37,7 +44,11 @@ word_first b (c ∷ cs) h = elim (cases_Bool (is_word_byte c)) [
 -- what stands behind blanks begins with none
 behind_blanks : (xs : List ℕ) → prefix_len is_blank (drop (prefix_len is_blank xs) xs) ≡ 0
 behind_blanks [] = refl
-behind_blanks (b ∷ bs) = elim (cases_Bool (is_blank b)) [ inl y ↦ rw (y, one_more) (behind_blanks bs) | inr n ↦ rw (n) (rw n refl) ]
+behind_blanks (b ∷ bs) = elim (cases_Bool (is_blank b)) [
+  | inl y ↦ rw (y, one_more) (behind_blanks bs)
+  | inr n ↦
+      rw (n) (rw n refl)
+]
 
 -- blanks mark the token behind them
 pub marked : Bool → List Token → List Token
@@ -53,11 +64,14 @@ unfolding marked
 marked_twice true ts = once ts
 marked_twice false ts = refl
 
-tokens_marked : (xs : List ℕ) → tokens xs ≡ marked (nat_lt 0 (prefix_len is_blank xs)) (tokens (drop (prefix_len is_blank xs) xs))
+tokens_marked : (xs : List ℕ) → tokens xs ≡ marked (nat_lt 0 (prefix_len is_blank xs))
+    (tokens (drop (prefix_len is_blank xs) xs))
 unfolding tokens marked
 tokens_marked [] = refl
 tokens_marked (b ∷ bs) = elim (cases_Bool (is_blank b)) [
-  | inl y ↦ rw (y, positive (prefix_len is_blank bs), one_more) (ap after_blank (tokens_marked bs) ∙ marked_twice (nat_lt 0 (prefix_len is_blank bs)) (tokens (drop (prefix_len is_blank bs) bs)))
+  | inl y ↦ rw (y, positive (prefix_len is_blank bs), one_more)
+      (ap after_blank (tokens_marked bs) ∙ marked_twice (nat_lt 0 (prefix_len is_blank bs))
+      (tokens (drop (prefix_len is_blank bs) bs)))
   | inr n ↦ rw n (rw n refl)
 ]
 
@@ -65,12 +79,17 @@ some_blank : (b : ℕ) (bs : List ℕ) → is_blank b ≡ true → prefix_len is
 some_blank b bs e z = let h = rw e at z in omega arith
 
 -- the first token of a text that begins with no blank
-one_first : (rest : List ℕ) → prefix_len is_blank rest ≡ 0 → 0 < length rest → tokens rest ≡ token false (take (token_len rest) rest) ∷ tokens (drop (token_len rest) rest)
+one_first : (rest : List ℕ) → prefix_len is_blank rest ≡ 0 → 0 < length rest
+    → tokens rest ≡ token false (take (token_len rest) rest) ∷ tokens (drop (token_len rest) rest)
 unfolding tokens
 one_first [] none more = absurd (omega arith)
 one_first (b ∷ bs) none more = elim (cases_Bool (is_word_byte b)) [
   | inl y ↦ word_first b bs y ∙ rw (y, one_more) refl
-  | inr n ↦ elim (cases_Bool (is_blank b)) [ inl blank ↦ absurd (some_blank b bs blank none) | inr full ↦ rw (full, n) refl ]
+  | inr n ↦ elim (cases_Bool (is_blank b)) [
+    | inl blank ↦ absurd (some_blank b bs blank none)
+    | inr full ↦
+        rw (full, n) refl
+  ]
 ]
 
 marked_none : (b : Bool) → marked b [] ≡ []
@@ -89,9 +108,14 @@ tokens_nil = refl
 
 -- no token where there are only blanks
 pub no_token : (text : List ℕ) → length (drop (prefix_len is_blank text) text) ≡ 0 → tokens text ≡ []
-no_token text none = tokens_marked text ∙ (rw (nil_from_length (drop (prefix_len is_blank text) text) none, tokens_nil) (marked_none (nat_lt 0 (prefix_len is_blank text))))
+no_token text none = tokens_marked text ∙
+    (rw (nil_from_length (drop (prefix_len is_blank text) text) none, tokens_nil)
+    (marked_none (nat_lt 0 (prefix_len is_blank text))))
 
 -- the first token behind the blanks
 pub first_token : (text rest : List ℕ) → rest ≡ drop (prefix_len is_blank text) text → 0 < length rest
-    → tokens text ≡ token (nat_lt 0 (prefix_len is_blank text)) (take (token_len rest) rest) ∷ tokens (drop (token_len rest) rest)
-first_token text rest same more = tokens_marked text ∙ (rw (← same) (rw (one_first rest (rw same (behind_blanks text)) more) (marked_one (nat_lt 0 (prefix_len is_blank text)) _ _)))
+    → tokens text ≡ token (nat_lt 0 (prefix_len is_blank text)) (take (token_len rest) rest)
+    ∷ tokens (drop (token_len rest) rest)
+first_token text rest same more = tokens_marked text
+    ∙ (rw (← same) (rw (one_first rest (rw same (behind_blanks text)) more)
+    (marked_one (nat_lt 0 (prefix_len is_blank text)) _ _)))

@@ -1,6 +1,5 @@
 pub mod FirstToken
 pub mod Walk
-pub mod Digits
 pub mod FirstFault
 pub mod Spell
 pub mod Decimals

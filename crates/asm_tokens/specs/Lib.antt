@@ -1,5 +1,4 @@
-pub mod Options
 pub mod Tokens
-pub mod Numbers
+pub mod Comments
 pub mod Lines
 pub mod Whole

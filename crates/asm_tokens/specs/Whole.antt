@@ -1,7 +1,7 @@
 -- Texts by their lines, and the first faulty line, for any relation between lists of lines and what they
 -- stand for.
 use Rattle.std.specs.Prelude.{◌<◌, ◌≤◌, ℕ, ◌+◌, ◌-◌, List, [], ◌∷◌, ◌++◌, length, take, Option, Result, Ok, Err}
-use Rattle.asm_tokens.specs.Options.{pick}
+use Rattle.base.specs.Options.{pick}
 
 -- some whole text begins with the lines
 pub record Begins {V : Type 0} (Stands : List (List ℕ) → V → Type 0) (lines : List (List ℕ)) : Type 0 where
@@ -11,7 +11,8 @@ pub record Begins {V : Type 0} (Stands : List (List ℕ) → V → Type 0) (line
 
 -- line n, counted from 1, is the first faulty one: some whole text begins with the lines before it, and none
 -- with these and line n. Where n is the number of lines plus 1, the text ends too early
-pub record IsFirstFault {V : Type 0} (Stands : List (List ℕ) → V → Type 0) (lines : List (List ℕ)) (n : ℕ) : Type 0 where
+pub record IsFirstFault {V : Type 0} (Stands : List (List ℕ) → V → Type 0) (lines : List (List ℕ))
+    (n : ℕ) : Type 0 where
   pub counted : (1 ≤ n) × (n ≤ length lines + 1)
   pub before : Begins Stands (take (n - 1) lines)
   pub at : n ≤ length lines → ¬ (Begins Stands (take n lines))

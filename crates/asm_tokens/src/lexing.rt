@@ -13,7 +13,8 @@ pub struct Lexeme<'a> {
 /// The first token of a text, None exactly where there is none.
 #[tactic(auto, using(crate::proofs::FirstToken::no_token, crate::proofs::FirstToken::first_token))]
 pub fn next(text: &[u8]) -> Option<Lexeme<'_>>
-    ensures { MatchOption result (tokens text.now ≡ []) (λ r. tokens text.now ≡ token r.spaced r.text.now ∷ tokens r.rest.now) }
+    ensures { MatchOption result (tokens text.now ≡ [])
+        (λ r. tokens text.now ≡ token r.spaced r.text.now ∷ tokens r.rest.now) }
 {
     let blanks = blank_len(text);
     let (_, rest) = text.split_at(blanks);

@@ -1,15 +1,18 @@
 -- No evaluation leaves the intervals: one row a kind, and then along the operations.
-use Rattle.std.proofs.Common.{◌≡◌, ℕ, zero, suc, ◌+◌, ◌-◌, ◌*◌, ◌/◌, ◌%◌, ◌^◌, ◌<◌, ◌≤◌, Bool, true, false, List, [], ◌∷◌, ◌++◌, refl, sym, ◌∙◌, ap, subst, arith}
+use Rattle.std.proofs.Common.{◌≡◌, ℕ, zero, suc, ◌+◌, ◌-◌, ◌*◌, ◌/◌, ◌%◌, ◌^◌, ◌<◌, ◌≤◌, Bool, true, false, List, []}
+use Rattle.std.proofs.Common.{◌∷◌, ◌++◌, refl, sym, ◌∙◌, ap, subst, arith}
 use Rattle.std.specs.Prelude.{◌&&◌, ◌==◌, nat_lt, nat_le, min, max, slice_index, slice_index_or, if◌then◌else◌}
 use Rattle.std.specs.Int.{w64, leading_zeros}
 use Rattle.std.proofs.lemmas.Bool.Decides.{nat_tests}
-use Rattle.std.proofs.lemmas.Nat.{and_le_l, and_le_r, le_or_l, le_or_r, or_lt, xor_lt, mul-le, mul-lt, mul-add-lt, leading_length, pow-add, pow_pos, shr_le, shr_below, shl-shr, mod-pow-add, mod_below}
+use Rattle.std.proofs.lemmas.Nat.{and_le_l, and_le_r, le_or_l, le_or_r, or_lt, xor_lt, mul-le, mul-lt, mul-add-lt}
+use Rattle.std.proofs.lemmas.Nat.{leading_length, pow-add, pow_pos, shr_le, shr_below, shl-shr, mod-pow-add, mod_below}
 use Rattle.std.proofs.Math.Pow.{shr_mono, pow_mono}
 use Rattle.std.proofs.Math.Nat.{mul-mod_left}
 use Rattle.word_operations.specs.declared.kind.Kind.{Kind}
-use Rattle.word_operations.specs.declared.kind.Kind.TheVariants.{AddCarry, SubBorrow, MulX, CMov, Add, Sub, Mul, And, Or, Xor, Not, Copy, Shl, Shr, Shrd}
+use Rattle.word_operations.specs.declared.kind.Kind.TheVariants.{AddCarry, SubBorrow, MulX, CMov, Add, Sub, Mul, And}
+use Rattle.word_operations.specs.declared.kind.Kind.TheVariants.{Or, Xor, Not, Copy, Shl, Shr, Shrd}
 use Rattle.word_operations.specs.Operations.{results_on}
-use Rattle.word_program.specs.Accepted.{HasCount}
+use Rattle.word_program.specs.Accepted.{HasShift}
 use Rattle.bounds.specs.declared.interval.Interval.{Interval}
 use Rattle.bounds.specs.Intervals.{full, window, floors, fitting, ones, intervals_on}
 use Rattle.bounds.specs.Soundness.{LieIn, AreLeastOnes}
@@ -24,8 +27,10 @@ pub record Lies (v : ℕ) (i : Interval) : Type 0 where
 lies_full : (v : ℕ) → v < 2 ^ 64 → Lies v full
 lies_full v h = record { low = omega arith; high = omega arith; word = omega arith }
 
-window_by : (b : Bool) (low high v : ℕ) → (low / 2 ^ 64 == high / 2 ^ 64) ≡ b → low ≤ v → v ≤ high → Lies (v % 2 ^ 64) (if b then record { low = low % 2 ^ 64; high = high % 2 ^ 64 } else full)
-window_by true low high v e l h = let q : low / 2 ^ 64 ≡ high / 2 ^ 64 = grind (arith, nat_tests, e) in record { low = omega arith; high = omega arith; word = omega arith }
+window_by : (b : Bool) (low high v : ℕ) → (low / 2 ^ 64 == high / 2 ^ 64) ≡ b → low ≤ v → v ≤ high
+    → Lies (v % 2 ^ 64) (if b then record { low = low % 2 ^ 64; high = high % 2 ^ 64 } else full)
+window_by true low high v e l h = let q : low / 2 ^ 64 ≡ high / 2 ^ 64 = grind (arith, nat_tests, e) in
+    record { low = omega arith; high = omega arith; word = omega arith }
 window_by false low high v e l h = lies_full _ (omega arith)
 
 window_lies : (low high v : ℕ) → low ≤ v → v ≤ high → Lies (v % 2 ^ 64) (window low high)
@@ -34,8 +39,10 @@ window_lies low high v l h = window_by (low / 2 ^ 64 == high / 2 ^ 64) low high 
 floors_lies : (low high v : ℕ) → low ≤ v → v ≤ high → high < 2 ^ 64 * 2 ^ 64 → Lies (v / 2 ^ 64) (floors low high)
 floors_lies low high v l h w = record { low = omega arith; high = omega arith; word = omega arith }
 
-fitting_by : (a b : Bool) (low high v : ℕ) → nat_lt low (2 ^ 64) ≡ a → nat_lt high (2 ^ 64) ≡ b → low ≤ v → v ≤ high → Lies (v % 2 ^ 64) (if a && b then record { low = low; high = high } else full)
-fitting_by true true low high v d e l h = let q : high < 2 ^ 64 = grind (arith, nat_tests, e) in record { low = omega arith; high = omega arith; word = q }
+fitting_by : (a b : Bool) (low high v : ℕ) → nat_lt low (2 ^ 64) ≡ a → nat_lt high (2 ^ 64) ≡ b → low ≤ v → v ≤ high
+    → Lies (v % 2 ^ 64) (if a && b then record { low = low; high = high } else full)
+fitting_by true true low high v d e l h = let q : high < 2 ^ 64 = grind (arith, nat_tests, e) in
+    record { low = omega arith; high = omega arith; word = q }
 fitting_by true false low high v d e l h = lies_full _ (omega arith)
 fitting_by false b low high v d e l h = lies_full _ (omega arith)
 
@@ -43,9 +50,18 @@ fitting_lies : (low high v : ℕ) → low ≤ v → v ≤ high → Lies (v % 2 ^
 fitting_lies low high v l h = fitting_by (nat_lt low (2 ^ 64)) (nat_lt high (2 ^ 64)) low high v refl refl l h
 
 -- one of two words
-either_lies : (b : Bool) (x y : ℕ) (i j : Interval) → Lies x i → Lies y j → Lies (if b then x else y) (record { low = min i.low j.low; high = max i.high j.high })
-either_lies true x y i j h g = record { low = omega (arith, h.low); high = omega (arith, h.high); word = omega (arith, h.word, g.word) }
-either_lies false x y i j h g = record { low = omega (arith, g.low); high = omega (arith, g.high); word = omega (arith, h.word, g.word) }
+either_lies : (b : Bool) (x y : ℕ) (i j : Interval) → Lies x i → Lies y j
+    → Lies (if b then x else y) (record { low = min i.low j.low; high = max i.high j.high })
+either_lies true x y i j h g = record {
+  low = omega (arith, h.low);
+  high = omega (arith, h.high);
+  word = omega (arith, h.word, g.word);
+}
+either_lies false x y i j h g = record {
+  low = omega (arith, g.low);
+  high = omega (arith, g.high);
+  word = omega (arith, h.word, g.word);
+}
 
 bit_le : (p q : Bool) → (p ≡ true → q ≡ true) → (if p then 1 else 0) ≤ (if q then 1 else 0)
 bit_le true q h = rw (h refl) (omega arith)
@@ -57,7 +73,11 @@ bit_word true = omega arith
 bit_word false = omega arith
 
 -- a borrow comes always, never, or now and then
-borrow_lies : (a s low high lows highs : ℕ) → low ≤ a → a ≤ high → lows ≤ s → s ≤ highs → Lies (if nat_lt a s then 1 else 0) (record { low = (if nat_lt high lows then 1 else 0); high = (if nat_le highs low then 0 else 1) })
+borrow_lies : (a s low high lows highs : ℕ) → low ≤ a → a ≤ high → lows ≤ s → s ≤ highs
+    → Lies (if nat_lt a s then 1 else 0) (record {
+      low = (if nat_lt high lows then 1 else 0);
+      high = (if nat_le highs low then 0 else 1);
+    })
 borrow_lies a s low high lows highs l h ls hs = record {
   low = bit_le (nat_lt high lows) (nat_lt a s) (λ e. grind (arith, nat_tests, e));
   high = grind (arith, nat_tests);
@@ -68,20 +88,26 @@ borrow_lies a s low high lows highs l h ls hs = record {
 
 -- a word at most n has at most the digits of n
 digits_below : (x n : ℕ) → x ≤ n → n < 2 ^ 64 → x < 2 ^ (64 - leading_zeros w64 n)
-digits_below x n h w = let l = leading_length 64 n w in let e : 64 - leading_zeros w64 n ≡ l.0 = omega (arith, l.1) in rw e (omega (arith, l.2))
+digits_below x n h w = let l = leading_length 64 n w in let e : 64 - leading_zeros w64 n ≡ l.0 = omega (arith, l.1) in
+    rw e (omega (arith, l.2))
 
 ones_word : (n : ℕ) → ones n < 2 ^ 64
-ones_word n = let p : 2 ^ (64 - leading_zeros w64 n) ≤ 2 ^ 64 = pow_mono {i = 64 - leading_zeros w64 n} {j = 64} (omega arith) in omega (arith, p, pow_pos (64 - leading_zeros w64 n))
+ones_word n = let p : 2 ^ (64 - leading_zeros w64 n) ≤ 2 ^ 64 =
+    pow_mono {i = 64 - leading_zeros w64 n} {j = 64} (omega arith) in
+    omega (arith, p, pow_pos (64 - leading_zeros w64 n))
 
 -- a word below a power of two is at most so many ones
 below_ones : (x m : ℕ) → x < 2 ^ m → x ≤ 2 ^ m - 1
 below_ones x m h = omega (arith, h)
 
 digits_of_left : {a b : ℕ} {i j : Interval} → Lies a i → Lies b j → a < 2 ^ (64 - leading_zeros w64 (max i.high j.high))
-digits_of_left {a} {b} {i} {j} f g = digits_below a (max i.high j.high) (omega (arith, f.high)) (omega (arith, f.word, g.word))
+digits_of_left {a} {b} {i} {j} f g = digits_below a (max i.high j.high) (omega (arith, f.high))
+    (omega (arith, f.word, g.word))
 
-digits_of_right : {a b : ℕ} {i j : Interval} → Lies a i → Lies b j → b < 2 ^ (64 - leading_zeros w64 (max i.high j.high))
-digits_of_right {a} {b} {i} {j} f g = digits_below b (max i.high j.high) (omega (arith, g.high)) (omega (arith, f.word, g.word))
+digits_of_right : {a b : ℕ} {i j : Interval} → Lies a i → Lies b j
+    → b < 2 ^ (64 - leading_zeros w64 (max i.high j.high))
+digits_of_right {a} {b} {i} {j} f g = digits_below b (max i.high j.high) (omega (arith, g.high))
+    (omega (arith, f.word, g.word))
 
 shrd_at : (lo hi k m : ℕ) → k + m ≡ 64 → lo < 2 ^ 64 → lo / 2 ^ k + (hi * 2 ^ m) % 2 ^ 64 < 2 ^ 64
 shrd_at lo hi k m e w =
@@ -90,10 +116,14 @@ shrd_at lo hi k m e w =
     let d : 2 ^ (m + k) ≡ 2 ^ 64 = ap (λ n. 2 ^ n) f in
     let z : (hi * 2 ^ m) % 2 ^ m ≡ 0 = mul-mod_left hi (2 ^ m) in
     let r : (hi * 2 ^ m) / 2 ^ m ≡ hi = shl-shr hi m in
-    let s : (hi * 2 ^ m) % 2 ^ (k + m) ≡ (hi * 2 ^ m / 2 ^ m % 2 ^ k) * 2 ^ m + (hi * 2 ^ m) % 2 ^ m = mod-pow-add (hi * 2 ^ m) k m in
-    let t : (hi * 2 ^ m / 2 ^ m % 2 ^ k) * 2 ^ m + (hi * 2 ^ m) % 2 ^ m ≡ (hi % 2 ^ k) * 2 ^ m + (hi * 2 ^ m) % 2 ^ m = ap (λ n. (n % 2 ^ k) * 2 ^ m + (hi * 2 ^ m) % 2 ^ m) r in
+    let s : (hi * 2 ^ m) % 2 ^ (k + m) ≡ (hi * 2 ^ m / 2 ^ m % 2 ^ k) * 2 ^ m + (hi * 2 ^ m) % 2 ^ m =
+    mod-pow-add (hi * 2 ^ m) k m in
+    let t : (hi * 2 ^ m / 2 ^ m % 2 ^ k) * 2 ^ m + (hi * 2 ^ m) % 2 ^ m ≡ (hi % 2 ^ k) * 2 ^ m + (hi * 2 ^ m) % 2 ^ m =
+    ap (λ n. (n % 2 ^ k) * 2 ^ m + (hi * 2 ^ m) % 2 ^ m) r in
     let u : (hi * 2 ^ m) % 2 ^ 64 ≡ (hi * 2 ^ m) % 2 ^ (k + m) = ap (λ n. (hi * 2 ^ m) % n) (sym c) in
-    let y : (hi % 2 ^ k) * 2 ^ m + lo / 2 ^ k < 2 ^ m * 2 ^ k = mul-add-lt (hi % 2 ^ k) (2 ^ m) (lo / 2 ^ k) (2 ^ k) (mod_below hi (2 ^ k) (pow_pos k)) (shr_below lo m k (subst (λ n. lo < n) (sym d) w)) in
+    let y : (hi % 2 ^ k) * 2 ^ m + lo / 2 ^ k < 2 ^ m * 2 ^ k =
+    mul-add-lt (hi % 2 ^ k) (2 ^ m) (lo / 2 ^ k) (2 ^ k) (mod_below hi (2 ^ k) (pow_pos k))
+    (shr_below lo m k (subst (λ n. lo < n) (sym d) w)) in
     let q : 2 ^ m * 2 ^ k ≡ 2 ^ 64 = sym (pow-add 2 m k) ∙ d in
     let v : (hi * 2 ^ m) % 2 ^ 64 ≡ (hi % 2 ^ k) * 2 ^ m + (hi * 2 ^ m) % 2 ^ m = u ∙ s ∙ t in
     omega (arith, v, z, y, q)
@@ -122,7 +152,8 @@ lie_append [] ws (i ∷ is) js t u = absurd t
 lie_append (v ∷ vs) ws [] js t u = absurd t
 lie_append (v ∷ vs) ws (i ∷ is) js t u = (t.0, lie_append vs ws is js t.1 u)
 
-pub lies_at : (vs : List ℕ) (is : List Interval) → LieAll vs is → (n : ℕ) → Lies (slice_index vs n) (slice_index_or is n full)
+pub lies_at : (vs : List ℕ) (is : List Interval) → LieAll vs is → (n : ℕ)
+    → Lies (slice_index vs n) (slice_index_or is n full)
 lies_at [] [] t n = lies_full 0 (omega arith)
 lies_at [] (i ∷ is) t n = absurd t
 lies_at (v ∷ vs) [] t n = absurd t
@@ -131,14 +162,23 @@ lies_at (v ∷ vs) (i ∷ is) t (suc n) = lies_at vs is t.1 n
 
 -- ---- the table
 
-pub row : (kind : Kind) → HasCount kind → (a b c : ℕ) (i j k : Interval) → Lies a i → Lies b j → Lies c k → LieAll (results_on kind a b c) (intervals_on kind i j k)
+pub row : (kind : Kind) → HasShift kind → (a b c : ℕ) (i j k : Interval) → Lies a i → Lies b j → Lies c k
+    → LieAll (results_on kind a b c) (intervals_on kind i j k)
 row AddCarry t c a b i j k f g h = (
   window_lies _ _ _ (omega (arith, f.low, g.low, h.low)) (omega (arith, f.high, g.high, h.high)),
-  (floors_lies _ _ _ (omega (arith, f.low, g.low, h.low)) (omega (arith, f.high, g.high, h.high)) (omega (arith, f.word, g.word, h.word)), tt),
+  (
+    floors_lies _ _ _ (omega (arith, f.low, g.low, h.low)) (omega (arith, f.high, g.high, h.high))
+        (omega (arith, f.word, g.word, h.word)),
+    tt,
+  ),
 )
 row SubBorrow t c a b i j k f g h = (
   window_lies _ _ _ (omega (arith, f.high, g.low, h.high)) (omega (arith, f.low, g.high, h.low)),
-  (borrow_lies a (b + c) j.low j.high (k.low + i.low) (k.high + i.high) g.low g.high (omega (arith, f.low, h.low)) (omega (arith, f.high, h.high)), tt),
+  (
+    borrow_lies a (b + c) j.low j.high (k.low + i.low) (k.high + i.high) g.low g.high (omega (arith, f.low, h.low))
+        (omega (arith, f.high, h.high)),
+    tt,
+  ),
 )
 row MulX t a b z i j k f g h =
     let l : i.low * j.low ≤ a * b = mul-le i.low j.low a b f.low g.low in
@@ -147,7 +187,11 @@ row MulX t a b z i j k f g h =
 row CMov t c z nz i j k f g h = (either_lies (c == 0) z nz j k g h, tt)
 row Add t a b z i j k f g h = (window_lies _ _ _ (omega (arith, f.low, g.low)) (omega (arith, f.high, g.high)), tt)
 row Sub t a b z i j k f g h = (window_lies _ _ _ (omega (arith, f.low, g.high)) (omega (arith, f.high, g.low)), tt)
-row Mul t a b z i j k f g h = (fitting_lies _ _ _ (mul-le i.low j.low a b f.low g.low) (mul-le a b i.high j.high f.high g.high), tt)
+row Mul t a b z i j k f g h = (
+  fitting_lies _ _ _ (mul-le i.low j.low a b f.low g.low)
+      (mul-le a b i.high j.high f.high g.high),
+  tt,
+)
 row And t a b z i j k f g h = (
   record {
     low = omega arith;
@@ -159,7 +203,8 @@ row And t a b z i j k f g h = (
 row Or t a b z i j k f g h = (
   record {
     low = omega (arith, le_or_l a b, le_or_r a b, f.low, g.low);
-    high = below_ones _ (64 - leading_zeros w64 (max i.high j.high)) (or_lt (64 - leading_zeros w64 (max i.high j.high)) a b (digits_of_left f g) (digits_of_right f g));
+    high = below_ones _ (64 - leading_zeros w64 (max i.high j.high))
+        (or_lt (64 - leading_zeros w64 (max i.high j.high)) a b (digits_of_left f g) (digits_of_right f g));
     word = ones_word (max i.high j.high);
   },
   tt,
@@ -167,15 +212,30 @@ row Or t a b z i j k f g h = (
 row Xor t a b z i j k f g h = (
   record {
     low = omega arith;
-    high = below_ones _ (64 - leading_zeros w64 (max i.high j.high)) (xor_lt (64 - leading_zeros w64 (max i.high j.high)) a b (digits_of_left f g) (digits_of_right f g));
+    high = below_ones _ (64 - leading_zeros w64 (max i.high j.high))
+        (xor_lt (64 - leading_zeros w64 (max i.high j.high)) a b (digits_of_left f g) (digits_of_right f g));
     word = ones_word (max i.high j.high);
   },
   tt,
 )
-row Not t a y z i j k f g h = (record { low = omega (arith, f.high); high = omega (arith, f.low); word = omega arith }, tt)
+row Not t a y z i j k f g h = (
+  record { low = omega (arith, f.high); high = omega (arith, f.low); word = omega arith },
+  tt,
+)
 row Copy t a y z i j k f g h = (f, tt)
-row (Shl count) t a y z i j k f g h = (fitting_lies _ _ _ (mul-le i.low (2 ^ count) a (2 ^ count) f.low (omega arith)) (mul-le a (2 ^ count) i.high (2 ^ count) f.high (omega arith)), tt)
-row (Shr count) t a y z i j k f g h = (record { low = shr_mono count f.low; high = shr_mono count f.high; word = omega (arith, shr_le i.high count, f.word) }, tt)
+row (Shl count) t a y z i j k f g h = (
+  fitting_lies _ _ _ (mul-le i.low (2 ^ count) a (2 ^ count) f.low (omega arith))
+      (mul-le a (2 ^ count) i.high (2 ^ count) f.high (omega arith)),
+  tt,
+)
+row (Shr count) t a y z i j k f g h = (
+  record {
+    low = shr_mono count f.low;
+    high = shr_mono count f.high;
+    word = omega (arith, shr_le i.high count, f.word);
+  },
+  tt,
+)
 row (Shrd count) t lo hi z i j k f g h = (lies_full _ (shrd_fits lo hi count (omega (arith, f.high, f.word)) t.1), tt)
 
 -- ---- ones

@@ -1,12 +1,14 @@
 -- The table of intervals: between which words the results of an operation lie, by the intervals of its
 -- operands. An interval has both of its ends.
-use Rattle.std.specs.Prelude.{ℕ, ◌+◌, ◌-◌, ◌*◌, ◌/◌, ◌%◌, ◌^◌, ◌&&◌, ◌==◌, nat_lt, nat_le, min, max, List, [], ◌∷◌, ◌++◌, map, fold, slice_index_or, if◌then◌else◌}
+use Rattle.std.specs.Prelude.{ℕ, ◌+◌, ◌-◌, ◌*◌, ◌/◌, ◌%◌, ◌^◌, ◌&&◌, ◌==◌, nat_lt, nat_le, min, max, List, [], ◌∷◌}
+use Rattle.std.specs.Prelude.{◌++◌, map, fold, slice_index_or, if◌then◌else◌}
 use Rattle.std.specs.Int.{w64, leading_zeros}
 use Rattle.word_program.specs.declared.parameter.Bounds.{Bounds}
 use Rattle.word_program.specs.declared.parameter.Param.{Param}
 use Rattle.word_program.specs.declared.operation.Op.{Op}
 use Rattle.word_operations.specs.declared.kind.Kind.{Kind}
-use Rattle.word_operations.specs.declared.kind.Kind.TheVariants.{AddCarry, SubBorrow, MulX, CMov, Add, Sub, Mul, And, Or, Xor, Not, Copy, Shl, Shr, Shrd}
+use Rattle.word_operations.specs.declared.kind.Kind.TheVariants.{AddCarry, SubBorrow, MulX, CMov, Add, Sub, Mul, And}
+use Rattle.word_operations.specs.declared.kind.Kind.TheVariants.{Or, Xor, Not, Copy, Shl, Shr, Shrd}
 use Rattle.word_program.specs.declared.operation.Operand.{Operand}
 use Rattle.word_program.specs.declared.operation.Operand.TheVariants as operands
 use Rattle.word_program.specs.Program.{Source}
@@ -46,7 +48,11 @@ intervals_on AddCarry c a b =
     ∷ []
 intervals_on SubBorrow c a b =
     window (a.low + 2 * 2 ^ 64 - (b.high + c.high)) (a.high + 2 * 2 ^ 64 - (b.low + c.low))
-    ∷ record { low = if nat_lt a.high (b.low + c.low) then 1 else 0; high = if nat_le (b.high + c.high) a.low then 0 else 1 }
+    ∷ record {
+      low = if nat_lt a.high (b.low + c.low) then 1 else 0;
+      high = if nat_le (b.high + c.high) a.low then
+          0 else 1;
+    }
     ∷ []
 intervals_on MulX a b z = fitting (a.low * b.low) (a.high * b.high) ∷ floors (a.low * b.low) (a.high * b.high) ∷ []
 intervals_on CMov c z nz = record { low = min z.low nz.low; high = max z.high nz.high } ∷ []
@@ -64,7 +70,8 @@ intervals_on (Shrd k) lo hi z = full ∷ []
 
 -- the intervals of the results of an operation of this kind
 abbrev pub intervals_by : Kind → List Interval → List Interval
-intervals_by kind is = intervals_on kind (slice_index_or is 0 full) (slice_index_or is 1 full) (slice_index_or is 2 full)
+intervals_by kind is = intervals_on kind (slice_index_or is 0 full) (slice_index_or is 1 full)
+    (slice_index_or is 2 full)
 
 -- ---- programs
 

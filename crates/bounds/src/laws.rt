@@ -12,5 +12,6 @@ pub fn ones_are_least()
 
 /// Where values lie in intervals, each lies in the interval of its number.
 pub fn values_lie_by_number()
-    ensures { (list : List Interval) (words : List ℕ) → LieIn list words → (number : ℕ) → number < length words → IsBetween (slice_index_or list number full) (slice_index words number) }
+    ensures { (list : List Interval) (words : List ℕ) → LieIn list words → (number : ℕ) → number < length words
+        → IsBetween (slice_index_or list number full) (slice_index words number) }
 {}

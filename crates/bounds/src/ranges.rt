@@ -2,7 +2,7 @@ ghost use Rattle.std.specs.Prelude.{◌≡◌, ◌++◌, map, slice_index_or, If
 ghost use Rattle.std.specs.List.{AllByRecursion};
 ghost use Rattle.word_program.specs.Program as programs;
 ghost use Rattle.word_program.specs.Values.{word_bounds};
-ghost use Rattle.word_program.specs.Accepted.{HasCount};
+ghost use Rattle.word_program.specs.Accepted.{HasShift};
 ghost use Rattle.bounds.specs.Intervals.{full, between, operand_interval, op_intervals, intervals_of};
 ghost use Rattle.bounds.specs.Soundness.{IsOrdered, HoldValues};
 
@@ -56,7 +56,7 @@ fn argument(params: &[Param], list: &[Interval], args: &[Operand], place: usize)
 /// Puts the intervals of an operation's results at the end of those of the values before it.
 #[tactic(auto, unfolding(crate::specs::Intervals::op_intervals))]
 fn push_op(list: &mut Vec<Interval>, params: &[Param], op: &Op) -> Result<(), AllocError>
-    requires { HasCount op.now.kind }
+    requires { HasShift op.now.kind }
     ensures { OnOk result (list.new.items ≡ list.old.items ++ op_intervals params.now list.old.items op.now) }
 {
     let args = op.args.items();

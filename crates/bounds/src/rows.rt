@@ -1,5 +1,6 @@
-ghost use Rattle.std.specs.Prelude.{◌≡◌, ◌≤◌, ◌+◌, ◌-◌, ◌*◌, ◌/◌, ◌^◌, ◌++◌, [], ◌∷◌, nat_lt, nat_le, min, max, OnOk, if◌then◌else◌};
-ghost use Rattle.word_program.specs.Accepted.{HasCount};
+ghost use Rattle.std.specs.Prelude.{◌≡◌, ◌≤◌, ◌+◌, ◌-◌, ◌*◌, ◌/◌, ◌^◌, ◌++◌, [], ◌∷◌, nat_lt, nat_le, min, max, OnOk};
+ghost use Rattle.std.specs.Prelude.{if◌then◌else◌};
+ghost use Rattle.word_program.specs.Accepted.{HasShift};
 ghost use Rattle.bounds.specs.Intervals.{window, floors, fitting, ones, intervals_on};
 
 use crate::interval;
@@ -39,7 +40,10 @@ fn difference(a: Interval, b: Interval, c: Interval) -> Interval
 
 /// Of `a - b - c`: the borrow.
 fn borrow(a: Interval, b: Interval, c: Interval) -> Interval
-    ensures { result ≡ record { low = (if nat_lt a.high (b.low + c.low) then 1 else 0); high = (if nat_le (b.high + c.high) a.low then 0 else 1) } }
+    ensures { result ≡ record {
+      low = (if nat_lt a.high (b.low + c.low) then 1 else 0);
+      high = (if nat_le (b.high + c.high) a.low then 0 else 1);
+    } }
 {
     let always = (a.high as u128) < b.low as u128 + c.low as u128;
     let never = b.high as u128 + c.high as u128 <= a.low as u128;
@@ -134,7 +138,7 @@ pub fn push_results(
     b: Interval,
     c: Interval,
 ) -> Result<(), AllocError>
-    requires { HasCount kind }
+    requires { HasShift kind }
     ensures { OnOk result (list.new.items ≡ list.old.items ++ intervals_on kind a b c) }
 {
     match kind {

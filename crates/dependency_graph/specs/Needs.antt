@@ -1,7 +1,8 @@
 -- Which operation needs which: the flow dependence of straight-line code in static single assignment form (Cytron
 -- and others, 1991), where each value is a result of one operation. An operation needs those of which a result is
 -- one of its operands.
-use Rattle.std.specs.Prelude.{◌≡◌, ℕ, ◌+◌, Bool, false, ◌&&◌, ◌==◌, nat_lt, nat_le, List, [], length, map, take, slice_get}
+use Rattle.std.specs.Prelude.{◌≡◌, ℕ, ◌+◌, Bool, false, ◌&&◌, ◌==◌, nat_lt, nat_le, List, [], length, map, take}
+use Rattle.std.specs.Prelude.{slice_get}
 use Rattle.std.specs.List.{filter, list_any, range_with_len}
 use Rattle.std.specs.Option.{option_map_or}
 use Rattle.word_program.specs.declared.operation.Operand.{Operand}
@@ -59,7 +60,10 @@ pub record Links : Type 0 where
 
 -- the links of all operations of a program
 abbrev pub graph_of : Source → Links
-graph_of program = record { needs = map (needs_of program) (all_ops program); users = map (users_of program) (all_ops program) }
+graph_of program = record {
+  needs = map (needs_of program) (all_ops program);
+  users = map (users_of program) (all_ops program);
+}
 
 -- these are the links of a program
 pub record IsGraph (links : Links) : Type 0 where

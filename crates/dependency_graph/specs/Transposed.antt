@@ -2,7 +2,8 @@
 -- lists are transposed, which gives the users, and the users are transposed, which gives the needs. Transposed lists
 -- are those of the transposed relation: the one with the number m has the numbers of the lists that hold m, ascending
 -- and each once.
-use Rattle.std.specs.Prelude.{ℕ, ◌+◌, ◌-◌, Bool, false, ◌==◌, List, [], ◌∷◌, ◌++◌, length, map, replicate, fold, option_to_list, slice_get, slice_index_or, slice_set, if◌then◌else◌}
+use Rattle.std.specs.Prelude.{ℕ, ◌+◌, ◌-◌, Bool, false, ◌==◌, List, [], ◌∷◌, ◌++◌, length, map, replicate, fold}
+use Rattle.std.specs.Prelude.{option_to_list, slice_get, slice_index_or, slice_set, if◌then◌else◌}
 use Rattle.std.specs.List.{flat_map, filter, range_with_len}
 use Rattle.std.specs.Option.{option_map_or}
 use Rattle.word_program.specs.declared.operation.Op.{Op}
@@ -11,23 +12,23 @@ use Rattle.word_program.specs.declared.operation.Operand.TheVariants as operands
 use Rattle.dependency_graph.specs.Needs.{has}
 
 -- the operation that defines each value of these operations, of which the first has this number
-abbrev pub makers_from : ℕ → List Op → List ℕ
-makers_from number [] = []
-makers_from number (op ∷ ops) = replicate (length op.targets) number ++ makers_from (number + 1) ops
+abbrev pub definers_from : ℕ → List Op → List ℕ
+definers_from number [] = []
+definers_from number (op ∷ ops) = replicate (length op.targets) number ++ definers_from (number + 1) ops
 
 -- the operation that defines each value, by the value number
-abbrev pub makers_of : List Op → List ℕ
-makers_of ops = makers_from 0 ops
+abbrev pub definers_of : List Op → List ℕ
+definers_of ops = definers_from 0 ops
 
 -- the operation that defines an operand, where it is a value
-abbrev pub maker_of : List ℕ → Operand → List ℕ
-maker_of makers (operands.Literal word) = []
-maker_of makers (operands.Input param word) = []
-maker_of makers (operands.Value number) = option_to_list (slice_get makers number)
+abbrev pub definer_of : List ℕ → Operand → List ℕ
+definer_of definers (operands.Literal word) = []
+definer_of definers (operands.Input param word) = []
+definer_of definers (operands.Value number) = option_to_list (slice_get definers number)
 
 -- the operations that define the operands of an operation, in the order of the operands
 abbrev pub reads_of : List ℕ → Op → List ℕ
-reads_of makers op = flat_map (maker_of makers) op.args
+reads_of definers op = flat_map (definer_of definers) op.args
 
 -- the numbers of the lists that hold this number
 abbrev pub holders : List (List ℕ) → ℕ → List ℕ
@@ -49,7 +50,8 @@ put_last number list = if ends_with number list then list else list ++ number �
 
 -- the number at the end of the lists at these places
 abbrev pub entered : ℕ → List (List ℕ) → List ℕ → List (List ℕ)
-entered number lists places = fold (λ ls place. slice_set ls place (put_last number (slice_index_or ls place []))) lists places
+entered number lists places = fold (λ ls place. slice_set ls place (put_last number (slice_index_or ls place [])))
+    lists places
 
 -- the numbers of lists, of which the first has this one, at the end of the lists that they hold
 abbrev pub entered_all : ℕ → List (List ℕ) → List (List ℕ) → List (List ℕ)

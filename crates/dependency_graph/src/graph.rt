@@ -2,7 +2,7 @@ ghost use Rattle.std.specs.Prelude.{◌≡◌, ◌≤◌, ◌<◌, ◌+◌, ◌+
 ghost use Rattle.std.specs.List.{AllByRecursion};
 ghost use Rattle.dependency_graph.specs.Needs.{graph_of};
 
-use crate::operands::{makers_of, reads_of};
+use crate::operands::{definers_of, reads_of};
 use crate::transpose::{Numbers, transposed};
 use std::alloc::{AllocError, Global};
 use std::marker::Model;
@@ -40,8 +40,8 @@ impl Graph {
         ensures { IfOk result (λ graph. graph ≡ graph_of program.entry.now) }
     {
         let ops = program.ops();
-        let makers = makers_of(alloc, ops)?;
-        let reads = reads_of(alloc, makers.as_slice(), ops)?;
+        let definers = definers_of(alloc, ops)?;
+        let reads = reads_of(alloc, definers.as_slice(), ops)?;
         let users = transposed(alloc, reads.as_slice())?;
         let needs = transposed(alloc, users.as_slice())?;
         Ok(Graph { needs, users })

@@ -1,7 +1,7 @@
 //! The dependency graph of a program: which operation needs which.
 //!
 //! It promises to whoever orders operations that [`Graph`] has for each operation exactly those that define its
-//! operands, and those that have its results as operands. [`first_value`], [`reads_value_in`] and [`defining_op`]
+//! operands, and those that have its results as operands. [`first_value`], [`reads_value_in`] and [`definer`]
 //! tell the same of single operations, and take no memory.
 #![tactic(auto)]
 
@@ -16,4 +16,4 @@ pub use laws::{
     graph_has_needs_and_users, needed_ops_are_earlier, needs_and_users_are_converse,
     needs_are_the_needed_ops, values_are_defined_once,
 };
-pub use values::{defining_op, first_value, reads_value_in};
+pub use values::{definer, first_value, reads_value_in};

@@ -17,25 +17,25 @@ fn push_times(list: &mut Vec<u16>, number: u16, times: usize) -> Result<(), Allo
 }
 
 /// The operation that defines each value, by its value number.
-pub fn makers_of(alloc: Global, ops: &[Op]) -> Result<Vec<u16>, AllocError>
+pub fn definers_of(alloc: Global, ops: &[Op]) -> Result<Vec<u16>, AllocError>
     requires { length ops.now ≤ 2048 }
-    ensures { IfOk result (λ makers. makers.items ≡ spec.makers_of ops.entry.now) }
+    ensures { IfOk result (λ definers. definers.items ≡ spec.definers_of ops.entry.now) }
 {
-    let mut makers = Vec::new(alloc);
+    let mut definers = Vec::new(alloc);
     let mut number = 0;
     for op in ops {
-        push_times(&mut makers, number, op.targets.items().len())?;
+        push_times(&mut definers, number, op.targets.items().len())?;
         number += 1;
     }
-    Ok(makers)
+    Ok(definers)
 }
 
 /// The operation that defines an operand, where it is a value.
-fn maker_of(makers: &[u16], operand: Operand) -> Option<u16>
-    ensures { option_to_list result ≡ spec.maker_of makers.now operand }
+fn definer_of(definers: &[u16], operand: Operand) -> Option<u16>
+    ensures { option_to_list result ≡ spec.definer_of definers.now operand }
 {
     match operand {
-        Operand::Value(number) => match makers.get(number as usize) {
+        Operand::Value(number) => match definers.get(number as usize) {
             Some(maker) => Some(*maker),
             None => None,
         },
@@ -44,12 +44,16 @@ fn maker_of(makers: &[u16], operand: Operand) -> Option<u16>
 }
 
 /// The operations that define the operands of an operation, in the order of the operands.
-fn reads_of_one(alloc: Global, makers: &[u16], operands: &[Operand]) -> Result<Numbers, AllocError>
-    ensures { IfOk result (λ reads. reads ≡ flat_map (spec.maker_of makers.entry.now) operands.entry.now) }
+fn reads_of_one(
+    alloc: Global,
+    definers: &[u16],
+    operands: &[Operand],
+) -> Result<Numbers, AllocError>
+    ensures { IfOk result (λ reads. reads ≡ flat_map (spec.definer_of definers.entry.now) operands.entry.now) }
 {
     let mut reads = Numbers::new(alloc);
     for operand in operands {
-        if let Some(maker) = maker_of(makers, *operand) {
+        if let Some(maker) = definer_of(definers, *operand) {
             reads.push(maker)?;
         }
     }
@@ -57,12 +61,12 @@ fn reads_of_one(alloc: Global, makers: &[u16], operands: &[Operand]) -> Result<N
 }
 
 /// Of each operation, those that define its operands.
-pub fn reads_of(alloc: Global, makers: &[u16], ops: &[Op]) -> Result<Vec<Numbers>, AllocError>
-    ensures { IfOk result (λ reads. reads.items ≡ map (spec.reads_of makers.entry.now) ops.entry.now) }
+pub fn reads_of(alloc: Global, definers: &[u16], ops: &[Op]) -> Result<Vec<Numbers>, AllocError>
+    ensures { IfOk result (λ reads. reads.items ≡ map (spec.reads_of definers.entry.now) ops.entry.now) }
 {
     let mut reads = Vec::new(alloc);
     for op in ops {
-        reads.push(reads_of_one(alloc, makers, op.args.items())?)?;
+        reads.push(reads_of_one(alloc, definers, op.args.items())?)?;
     }
     Ok(reads)
 }

@@ -57,7 +57,7 @@ pub fn reads_value_in(program: &Program, op: u16, first: u32, end: u32) -> bool
 
 /// The operation that defines a value. It takes no memory, and time that grows with the number.
 #[tactic(auto, using(crate::proofs::OrderLemmas::defines_here))]
-pub fn defining_op(program: &Program, value: u16) -> u16
+pub fn definer(program: &Program, value: u16) -> u16
     requires { value < length (targets_of program.now.ops) }
     ensures op { result < length program.now.ops }
     ensures defines { spec.defines program.now result value ≡ true }

@@ -10,7 +10,7 @@ use Rattle.word_text.specs.declared.fault.Section.TheVariants.{Top, Returns, Arg
 use Rattle.word_text.specs.declared.parts.RawParam.{RawParam}
 use Rattle.word_text.specs.declared.parts.RawOp.{RawOp}
 use Rattle.word_text.specs.declared.parts.RawProgram.{RawProgram}
-use Rattle.word_text.specs.Options.{◌>>=◌}
+use Rattle.base.specs.Options.{◌>>=◌}
 use Rattle.word_program.specs.Walk.{Fault, place_in, at, walk}
 
 -- ---- parts of a JSON value
@@ -112,7 +112,12 @@ abbrev pub with_op : List RawOp → Data → List RawOp
 with_op ops d = option_map_or (λ op. ops ++ op ∷ []) (raw_op d) ops
 
 abbrev pub raw_parts : Parts → RawProgram
-raw_parts p = record { name = p.name; returns = fold with_param [] p.returns; arguments = fold with_param [] p.arguments; body = fold with_op [] p.body }
+raw_parts p = record {
+  name = p.name;
+  returns = fold with_param [] p.returns;
+  arguments = fold with_param [] p.arguments;
+  body = fold with_op [] p.body;
+}
 
 abbrev pub no_parts : RawProgram
 no_parts = record { name = []; returns = []; arguments = []; body = [] }

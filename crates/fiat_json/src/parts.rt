@@ -1,7 +1,8 @@
 ghost use Rattle.std.specs.Prelude.{◌≡◌, Some, [], IfOk, option_map, fold};
 ghost use Rattle.serde_json.specs.View.{view, items_view};
 ghost use Rattle.word_program.specs.Walk.{Meets, walk, place_in};
-ghost use Rattle.fiat_json.specs.Shape.{list_of, raw_param, raw_op, raw_program, param_fault, op_fault, shape_fault, with_param, with_op, parts_in};
+ghost use Rattle.fiat_json.specs.Shape.{list_of, raw_param, raw_op, raw_program, param_fault, op_fault, shape_fault};
+ghost use Rattle.fiat_json.specs.Shape.{with_param, with_op, parts_in};
 
 use crate::{bounds, values};
 use serde_json::Value;
@@ -21,7 +22,13 @@ struct Parts<'v> {
 
 #[tactic(auto, unfolding(crate::specs::Shape::parts_in))]
 fn parts_in<'v>(value: &'v Value) -> Option<Parts<'v>>
-    ensures { option_map (λ p. record { name = p.name.now; returns = list_of (items_view p.returns.now); arguments = list_of (items_view p.arguments.now); body = list_of (items_view p.body.now) }) result ≡ parts_in (view value.now) }
+    ensures { option_map (λ p. record {
+      name = p.name.now;
+      returns = list_of (items_view p.returns.now);
+      arguments = list_of (items_view p.arguments.now);
+      body = list_of (items_view p.body.now);
+    }) result ≡ parts_in
+        (view value.now) }
 {
     Some(Parts {
         name: values::text_at(value, "operation")?,

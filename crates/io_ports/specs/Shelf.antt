@@ -30,4 +30,5 @@ Grows before after bytes = IfSome after (λ b. (a : List ℕ) × (before ≡ Som
 
 -- what is told after was told before, and is longer by some first ones of these bytes, maybe none
 abbrev pub GrowsByPart : Option (List ℕ) → Option (List ℕ) → List ℕ → Type 0
-GrowsByPart before after bytes = IfSome after (λ b. (a : List ℕ) × (n : ℕ) × (before ≡ Some a) × (b ≡ a ++ take n bytes))
+GrowsByPart before after bytes = IfSome after
+    (λ b. (a : List ℕ) × (n : ℕ) × (before ≡ Some a) × (b ≡ a ++ take n bytes))

@@ -1,5 +1,6 @@
 //! A shelf in memory.
-ghost use Rattle.std.specs.Prelude.{◌≡◌, ◌≢◌, ◌↔◌, ◌⊎◌, ℕ, ◌<◌, ◌≤◌, ◌++◌, List, [], length, vec_len, IsTrue, IsNone, IfOk, IfErr, IfSome, IfNone, OnOk, OnErr, option_map};
+ghost use Rattle.std.specs.Prelude.{◌≡◌, ◌≢◌, ◌↔◌, ◌⊎◌, ℕ, ◌<◌, ◌≤◌, ◌++◌, List, [], length, vec_len, IsTrue, IsNone};
+ghost use Rattle.std.specs.Prelude.{IfOk, IfErr, IfSome, IfNone, OnOk, OnErr, option_map};
 ghost use Rattle.std.specs.BTreeMap.{get_by_text};
 ghost use Rattle.io_ports.specs.Shelf.{raised, HasCause, Stays, Grows, GrowsByPart};
 
@@ -20,7 +21,8 @@ pub struct MemoryShelf {
 }
 
 impl MemoryShelf {
-    ghost use Rattle.io_ports.specs.MemoryShelf.{file_of, output_of, call_of, fault_count_of, failing_calls_of, IsToFail};
+    ghost use Rattle.io_ports.specs.MemoryShelf.{file_of, output_of, call_of, fault_count_of, failing_calls_of};
+    ghost use Rattle.io_ports.specs.MemoryShelf.{IsToFail};
 
     /// A shelf with no file, on which nothing was said.
     ///
@@ -77,7 +79,10 @@ impl MemoryShelf {
     // Counts a call, and says whether it is to fail.
     fn begin(&mut self) -> bool
         ensures answer { IsTrue result ↔ IsToFail self.old }
-        ensures state { self.new ≡ record self.old { counts = record self.old.counts { calls = raised (call_of self.old) } } }
+        ensures state { self.new ≡ record self.old {
+          counts =
+              record self.old.counts { calls = raised (call_of self.old) };
+        } }
     {
         let is_to_fail = self.fails.contains(&self.counts.calls);
         self.counts.begin();
@@ -106,7 +111,8 @@ fn set_file(
 
 impl Shelf for MemoryShelf {
     ghost use Rattle.std.specs.Prelude.{Some};
-    ghost use Rattle.io_ports.specs.MemoryShelf.{file_of, output_of, call_of, fault_count_of, failing_calls_of, IsToFail, faults_after};
+    ghost use Rattle.io_ports.specs.MemoryShelf.{file_of, output_of, call_of, fault_count_of, failing_calls_of};
+    ghost use Rattle.io_ports.specs.MemoryShelf.{IsToFail, faults_after};
 
     ghost held = { file_of };
 

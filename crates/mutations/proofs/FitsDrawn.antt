@@ -20,7 +20,8 @@ pub slot_is : (p : Source) (slots : List Slot) (word : ℕ) → IsLegal p slots 
 slot_is p slots word legal = ap (λ n. word % n) (sym (legal_count p slots legal))
 
 -- a slot that is drawn is there
-pub slot_there : (p : Source) (slots : List Slot) (word : ℕ) → IsLegal p slots → 1 ≤ length p.ops → word % length p.ops < length slots
+pub slot_there : (p : Source) (slots : List Slot) (word : ℕ) → IsLegal p slots → 1 ≤ length p.ops
+    → word % length p.ops < length slots
 slot_there p slots word legal some =
     let rest = rest_below word (length p.ops) some in
     subst (λ (n : ℕ). word % length p.ops < n) (sym (legal_count p slots legal)) rest
@@ -31,7 +32,8 @@ place_within low high word h =
     omega arith
 
 -- a slot moves within its window
-pub move_fits : (p : Source) (slots : List Slot) (slot word to : ℕ) → IsLegal p slots → slot < length slots → to ≡ place_drawn p slots slot word → Fits p slots (Move slot to)
+pub move_fits : (p : Source) (slots : List Slot) (slot word to : ℕ) → IsLegal p slots → slot < length slots
+    → to ≡ place_drawn p slots slot word → Fits p slots (Move slot to)
 unfolding Fits
 move_fits p slots slot word to legal w e =
     let below = low_below p slots slot legal w in
@@ -41,8 +43,10 @@ move_fits p slots slot word to legal w e =
     (w, record { low = omega arith; high = omega arith })
 
 -- a slot gets a template of its operation
-pub template_fits : (p : Source) (slots : List Slot) (slot word number : ℕ) → IsLegal p slots → slot < length slots → number ≡ word % count_of p (op_at slots slot) → Fits p slots (Template slot number)
+pub template_fits : (p : Source) (slots : List Slot) (slot word number : ℕ) → IsLegal p slots → slot < length slots
+    → number ≡ word % count_of p (op_at slots slot) → Fits p slots (Template slot number)
 unfolding Fits
 template_fits p slots slot word number legal w e =
-    let below = rest_below word (count_of p (op_at slots slot)) (has_template_at p (op_at slots slot) (legal_op p slots legal slot w)) in
+    let below = rest_below word (count_of p (op_at slots slot))
+    (has_template_at p (op_at slots slot) (legal_op p slots legal slot w)) in
     (w, omega arith)

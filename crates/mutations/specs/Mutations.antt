@@ -1,12 +1,13 @@
 -- Mutations: one change of a plan each, which four random words draw.
-use Rattle.std.specs.Prelude.{ℕ, ◌+◌, ◌-◌, ◌<◌, ◌%◌, Bool, true, false, not, ◌==◌, List, length, slice_get, slice_index, slice_set, if◌then◌else◌}
+use Rattle.std.specs.Prelude.{ℕ, ◌+◌, ◌-◌, ◌<◌, ◌%◌, Bool, true, false, not, ◌==◌, List, length, slice_get, slice_index}
+use Rattle.std.specs.Prelude.{slice_set, if◌then◌else◌}
 use Rattle.std.specs.Option.{option_map_or}
 use Rattle.word_operations.specs.declared.kind.Kind.{Kind}
 use Rattle.word_operations.specs.declared.kind.Kind.TheVariants as kinds
 use Rattle.word_program.specs.Program.{Source}
 use Rattle.templates.specs.Table.{count_of}
 use Rattle.op_order.specs.declared.slot.Slot.{Slot}
-use Rattle.op_order.specs.Plans.{slot_at, op_at, moved}
+use Rattle.op_order.specs.Plans.{slot_at, op_at, with_slot_moved}
 use Rattle.op_order.specs.Windows.{low_of, high_of, IsInWindow}
 use Rattle.mutations.specs.declared.mutation.Mutation.{Mutation}
 use Rattle.mutations.specs.declared.mutation.Mutation.TheVariants.{Move, Template, Swap, Load}
@@ -37,11 +38,11 @@ op_commutes program op = option_map_or (λ o. commutes o.kind) (slice_get progra
 abbrev pub with_template : ℕ → Slot → Slot
 with_template number slot = record { op = slot.op; template = number; swap = slot.swap; load_first = slot.load_first }
 
-abbrev pub with_swap : Slot → Slot
-with_swap slot = record { op = slot.op; template = slot.template; swap = not slot.swap; load_first = slot.load_first }
+abbrev pub toggle_swap : Slot → Slot
+toggle_swap slot = record { op = slot.op; template = slot.template; swap = not slot.swap; load_first = slot.load_first }
 
-abbrev pub with_load : Slot → Slot
-with_load slot = record { op = slot.op; template = slot.template; swap = slot.swap; load_first = not slot.load_first }
+abbrev pub toggle_load : Slot → Slot
+toggle_load slot = record { op = slot.op; template = slot.template; swap = slot.swap; load_first = not slot.load_first }
 
 -- the slots after a change of the one at a place
 abbrev pub changed : (Slot → Slot) → List Slot → ℕ → List Slot
@@ -49,16 +50,16 @@ changed change slots at = slice_set slots at (change (slot_at slots at))
 
 -- the slots with the mark `swap` of the one at a place turned, where its operation commutes
 abbrev pub swapped : Source → List Slot → ℕ → List Slot
-swapped program slots at = if op_commutes program (op_at slots at) then changed with_swap slots at else slots
+swapped program slots at = if op_commutes program (op_at slots at) then changed toggle_swap slots at else slots
 
 -- the slots after a mutation: Move takes the slot out and puts it back so that it stands at the other place; Template
 -- sets the number of the template; Swap turns the mark `swap` where the operation commutes, and else changes nothing;
 -- Load turns the mark `load_first`
 unfoldable pub applied : Source → Mutation → List Slot → List Slot
-applied program (Move slot to) slots = moved slots slot to
+applied program (Move slot to) slots = with_slot_moved slots slot to
 applied program (Template slot number) slots = changed (with_template number) slots slot
 applied program (Swap slot) slots = swapped program slots slot
-applied program (Load slot) slots = changed with_load slots slot
+applied program (Load slot) slots = changed toggle_load slots slot
 
 -- the mutation is one of these slots: its slot is there, a slot moves within its window, and a template is one of the
 -- slot's operation
@@ -72,7 +73,8 @@ Fits program slots (Load slot) = slot < length slots
 
 -- a place in the window of a slot
 abbrev pub place_drawn : Source → List Slot → ℕ → ℕ → ℕ
-place_drawn program slots slot word = low_of program slots slot + word % (high_of program slots slot - low_of program slots slot + 1)
+place_drawn program slots slot word = low_of program slots slot + word %
+    (high_of program slots slot - low_of program slots slot + 1)
 
 -- the kinds are numbered Move 0, Template 1, Swap 2, Load 3
 abbrev pub mutation_of : Source → List Slot → ℕ → ℕ → ℕ → Mutation
@@ -83,4 +85,5 @@ mutation_of program slots kind slot word =
 
 -- the first word draws the kind, the second the slot, and the third the place or the template; the fourth is not read
 unfoldable pub drawn : Source → List Slot → List ℕ → Mutation
-drawn program slots words = mutation_of program slots (slice_index words 0 % 4) (slice_index words 1 % length slots) (slice_index words 2)
+drawn program slots words = mutation_of program slots (slice_index words 0 % 4) (slice_index words 1 % length slots)
+    (slice_index words 2)

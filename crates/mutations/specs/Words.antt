@@ -14,4 +14,5 @@ word_of seed place = word_at 10 (key_of (key_bytes seed)) 0 place
 
 -- the four words of a turn, which no other turn has
 unfoldable pub words_of : ℕ → ℕ → List ℕ
-words_of seed turn = word_of seed (4 * turn) ∷ word_of seed (4 * turn + 1) ∷ word_of seed (4 * turn + 2) ∷ word_of seed (4 * turn + 3) ∷ []
+words_of seed turn = word_of seed (4 * turn) ∷ word_of seed (4 * turn + 1) ∷ word_of seed (4 * turn + 2)
+    ∷ word_of seed (4 * turn + 3) ∷ []

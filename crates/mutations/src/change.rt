@@ -22,7 +22,10 @@ fn commutes(kind: Kind) -> bool
 
 fn set_template(plan: &mut Plan, slot: u16, number: u8)
     requires { slot < length plan.old.slots }
-    ensures { plan.new ≡ record { slots = spec.changed (spec.with_template number) plan.old.slots slot; room = plan.old.room } }
+    ensures { plan.new ≡ record {
+      slots = spec.changed (spec.with_template number) plan.old.slots slot;
+      room = plan.old.room;
+    } }
 {
     let before = plan.slots()[slot as usize];
     plan.set_slot(
@@ -34,7 +37,7 @@ fn set_template(plan: &mut Plan, slot: u16, number: u8)
     );
 }
 
-fn turn_swap(program: &Program, plan: &mut Plan, slot: u16)
+fn toggle_swap_at(program: &Program, plan: &mut Plan, slot: u16)
     requires slot { slot < length plan.old.slots }
     requires op { op_at plan.old.slots slot < length program.now.ops }
     ensures { plan.new ≡ record { slots = spec.swapped program.now plan.old.slots slot; room = plan.old.room } }
@@ -51,9 +54,9 @@ fn turn_swap(program: &Program, plan: &mut Plan, slot: u16)
     }
 }
 
-fn turn_load(plan: &mut Plan, slot: u16)
+fn toggle_load_at(plan: &mut Plan, slot: u16)
     requires { slot < length plan.old.slots }
-    ensures { plan.new ≡ record { slots = spec.changed spec.with_load plan.old.slots slot; room = plan.old.room } }
+    ensures { plan.new ≡ record { slots = spec.changed spec.toggle_load plan.old.slots slot; room = plan.old.room } }
 {
     let before = plan.slots()[slot as usize];
     plan.set_slot(
@@ -78,7 +81,7 @@ pub fn apply(program: &Program, mutation: Mutation, plan: &mut Plan)
     match mutation {
         Mutation::Move { slot, to } => plan.move_slot(slot, to),
         Mutation::Template { slot, number } => set_template(plan, slot, number),
-        Mutation::Swap { slot } => turn_swap(program, plan, slot),
-        Mutation::Load { slot } => turn_load(plan, slot),
+        Mutation::Swap { slot } => toggle_swap_at(program, plan, slot),
+        Mutation::Load { slot } => toggle_load_at(plan, slot),
     }
 }

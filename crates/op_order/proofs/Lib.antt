@@ -2,5 +2,5 @@ pub mod Moves
 pub mod LastPlace
 pub mod LegalLemmas
 pub mod WindowLaw
-pub mod Givers
+pub mod Definers
 pub mod Differing

@@ -16,6 +16,7 @@ pub record IsLegal (program : Source) (slots : List Slot) : Type 0 where
   -- each operation of the program has one slot
   pub order : IsPermutation (range_with_len 0 (length program.ops)) (ops_of slots)
   -- a slot stands after each one of which it needs the operation
-  pub after : (i j : ℕ) → i < length slots → j < length slots → is_needed program (op_at slots i) (op_at slots j) ≡ true → j < i
+  pub after : (i j : ℕ) → i < length slots → j < length slots
+      → is_needed program (op_at slots i) (op_at slots j) ≡ true → j < i
   -- its template is one of its operation
   pub templates : All (λ slot. slot.template < count_of program slot.op) slots

@@ -30,5 +30,5 @@ abbrev pub op_at : List Slot → ℕ → ℕ
 op_at slots at = (slot_at slots at).op
 
 -- the slot at one place is taken out, and put back so that it stands at the other
-unfoldable pub moved : List Slot → ℕ → ℕ → List Slot
-moved slots from to = insert (remove slots from) to (slot_at slots from)
+unfoldable pub with_slot_moved : List Slot → ℕ → ℕ → List Slot
+with_slot_moved slots from to = insert (remove slots from) to (slot_at slots from)

@@ -10,14 +10,14 @@ use Rattle.op_order.specs.declared.slot.Slot.{Slot}
 use Rattle.op_order.specs.Plans.{op_at}
 
 -- how many slots a list has up to the last one that passes, where behind its first slot there are so many
-abbrev pub up_to : Bool → ℕ → ℕ
-up_to passes zero = if passes then 1 else 0
-up_to passes (suc behind) = suc (suc behind)
+abbrev pub through_last : Bool → ℕ → ℕ
+through_last passes zero = if passes then 1 else 0
+through_last passes (suc behind) = suc (suc behind)
 
 -- one past the last place of a slot that passes, or 0 where none does
 abbrev pub past_last : (Slot → Bool) → List Slot → ℕ
 past_last test [] = 0
-past_last test (slot ∷ slots) = up_to (test slot) (past_last test slots)
+past_last test (slot ∷ slots) = through_last (test slot) (past_last test slots)
 
 -- one past the last place of an operation that the slot at a place needs, or 0
 unfoldable pub low_of : Source → List Slot → ℕ → ℕ
@@ -35,11 +35,11 @@ pub record IsInWindow (program : Source) (slots : List Slot) (at to : ℕ) : Typ
 -- ---- one operand
 
 -- the operation gives the operand: it is a value that the operation defines
-abbrev pub gives : Source → ℕ → Operand → Bool
-gives program op operand = is_value_in (first_value program op) (first_value program (op + 1)) operand
+abbrev pub defines_operand : Source → ℕ → Operand → Bool
+defines_operand program op operand = is_value_in (first_value program op) (first_value program (op + 1)) operand
 
 -- the operand is no value, or one of so many
-abbrev pub IsDefined : ℕ → Operand → Type 0
-IsDefined values (operands.Literal word) = Unit {0}
-IsDefined values (operands.Input param word) = Unit {0}
-IsDefined values (operands.Value number) = number < values
+abbrev pub IsDefinedAmong : ℕ → Operand → Type 0
+IsDefinedAmong values (operands.Literal word) = Unit {0}
+IsDefinedAmong values (operands.Input param word) = Unit {0}
+IsDefinedAmong values (operands.Value number) = number < values

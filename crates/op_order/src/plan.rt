@@ -1,6 +1,6 @@
 ghost use Rattle.std.specs.Prelude.{◌≡◌, ◌<◌, ◌≤◌, [], length, slice_set, IfOk};
 ghost use Rattle.op_order.specs.Legal.{IsLegal};
-ghost use Rattle.op_order.specs.Plans.{opening_of, opening_slot, moved};
+ghost use Rattle.op_order.specs.Plans.{opening_of, opening_slot, with_slot_moved};
 
 use crate::slot::Slot;
 use std::alloc::{AllocError, Global};
@@ -92,11 +92,11 @@ impl Plan {
 
     /// Takes the slot at `from` out, and puts it back so that it stands at `to`. The slots between the two places
     /// move by one.
-    #[tactic(auto, unfolding(crate::specs::Plans::moved))]
+    #[tactic(auto, unfolding(crate::specs::Plans::with_slot_moved))]
     pub fn move_slot(&mut self, from: u16, to: u16)
         requires from { from < length self.old.slots }
         requires to { to < length self.old.slots }
-        ensures { self.new ≡ record { slots = moved self.old.slots from to; room = self.old.room } }
+        ensures { self.new ≡ record { slots = with_slot_moved self.old.slots from to; room = self.old.room } }
     {
         let slot = self.slots.remove(from as usize);
         self.slots.insert(to as usize, slot).unwrap();

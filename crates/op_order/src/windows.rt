@@ -3,11 +3,11 @@ ghost use Rattle.std.specs.List.{All, position, position_or_len};
 ghost use Rattle.word_program.specs.Values.{targets_of};
 ghost use Rattle.dependency_graph.specs.Needs as needs;
 ghost use Rattle.op_order.specs.Legal.{IsLegal};
-ghost use Rattle.op_order.specs.Windows.{IsDefined, gives, high_of, low_of, past_last};
+ghost use Rattle.op_order.specs.Windows.{IsDefinedAmong, defines_operand, high_of, low_of, past_last};
 
 use crate::plan::Plan;
 use crate::slot::Slot;
-use dependency_graph::{defining_op, first_value, reads_value_in};
+use dependency_graph::{definer, first_value, reads_value_in};
 use word_program::{Operand, Program};
 
 /// One past the last slot of an operation, or 0 where it has none.
@@ -25,11 +25,11 @@ fn past_slots_of(slots: &[Slot], op: u16) -> usize
 
 /// One past the last slot of the operation that gives an operand, or 0 where none does.
 fn past_giver(program: &Program, slots: &[Slot], operand: Operand) -> usize
-    requires { IsDefined (length (targets_of program.now.ops)) operand }
-    ensures { result ≡ past_last (λ slot. gives program.now slot.op operand) slots.now }
+    requires { IsDefinedAmong (length (targets_of program.now.ops)) operand }
+    ensures { result ≡ past_last (λ slot. defines_operand program.now slot.op operand) slots.now }
 {
     match operand {
-        Operand::Value(value) => past_slots_of(slots, defining_op(program, value)),
+        Operand::Value(value) => past_slots_of(slots, definer(program, value)),
         Operand::Literal(_) | Operand::Input { .. } => 0,
     }
 }

@@ -2,7 +2,7 @@
 ghost use Rattle.std.specs.Prelude.{◌<◌, length};
 
 use crate::programs::{CHAIN2, parts};
-use dependency_graph::{Graph, defining_op, first_value, reads_value_in};
+use dependency_graph::{Graph, definer, first_value, reads_value_in};
 use std::test::Fail;
 use templates::{count, mnemonics};
 use word_program::Program;
@@ -194,9 +194,9 @@ fn values_are_counted_through_the_operations(rt: HostRuntime) -> Result<(), Fail
     assert!(rt; program.ops().len() == 5 && program.values() == 8);
     assert_eq!(rt; first_value(&program, 2), 3);
     assert_eq!(rt; first_value(&program, 5), 8);
-    assert_eq!(rt; defining_op(&program, 1), 0);
-    assert_eq!(rt; defining_op(&program, 2), 1);
-    assert_eq!(rt; defining_op(&program, 7), 4);
+    assert_eq!(rt; definer(&program, 1), 0);
+    assert_eq!(rt; definer(&program, 2), 1);
+    assert_eq!(rt; definer(&program, 7), 4);
     assert!(rt; reads_value_in(&program, 3, 4, 5) && !reads_value_in(&program, 3, 3, 4));
     Ok(())
 }

@@ -4,15 +4,16 @@ use Rattle.x86_meaning.specs.Machine.{Cells}
 use Rattle.search_top.specs.Emulation.{cell_word, words_at}
 
 -- no cells have no words
-pub words_none : (cells : Cells) (place : ℕ) (before : List ℕ) → before ≡ before ++ words_at cells place 0
+pub words_none : (cells : Cells) (address : ℕ) (before : List ℕ) → before ≡ before ++ words_at cells address 0
 unfolding words_at
-words_none cells place before = search rules
+words_none cells address before = search rules
 
 -- the word of one cell more comes last
-next_word : (cells : Cells) (place n : ℕ) → words_at cells place (n + 1) ≡ words_at cells place n ++ (cell_word cells (place + 8 * n) ∷ [])
+next_word : (cells : Cells) (address n : ℕ)
+    → words_at cells address (n + 1) ≡ words_at cells address n ++ (cell_word cells (address + 8 * n) ∷ [])
 unfolding words_at
-next_word cells place n = let e : n + 1 ≡ suc n = omega arith in rw e refl
+next_word cells address n = let e : n + 1 ≡ suc n = omega arith in rw e refl
 
-pub words_more : (cells : Cells) (place n : ℕ) (before now next : List ℕ) → now ≡ before ++ words_at cells place n
-    → next ≡ now ++ (cell_word cells (place + 8 * n) ∷ []) → next ≡ before ++ words_at cells place (n + 1)
-words_more cells place n before now next a b = rw (b, a, next_word cells place n) (simp append_assoc)
+pub words_more : (cells : Cells) (address n : ℕ) (before now next : List ℕ) → now ≡ before ++ words_at cells address n
+    → next ≡ now ++ (cell_word cells (address + 8 * n) ∷ []) → next ≡ before ++ words_at cells address (n + 1)
+words_more cells address n before now next a b = rw (b, a, next_word cells address n) (simp append_assoc)

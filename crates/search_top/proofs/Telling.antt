@@ -4,12 +4,14 @@ use Rattle.std.specs.Prelude.{Option, Some, None, IfSome, Result, Ok, Err, OnOk,
 use Rattle.io_ports.specs.Shelf.{Stays, GrowsByPart}
 
 -- what holds of some bytes holds of what is told, where that is these bytes
-pub told : (o : Option (List ℕ)) (bytes : List ℕ) (P : List ℕ → Type 0) → IfSome o (λ b. bytes ≡ b) → P bytes → IfSome o P
+pub told : (o : Option (List ℕ)) (bytes : List ℕ) (P : List ℕ → Type 0) → IfSome o (λ b. bytes ≡ b) → P bytes
+    → IfSome o P
 told None bytes P e p = tt
 told (Some b) bytes P e p = subst P e p
 
 -- what holds of what is told holds after it stayed
-pub stays_told : (before after : Option (List ℕ)) (P : List ℕ → Type 0) → Stays before after → IfSome before P → IfSome after P
+pub stays_told : (before after : Option (List ℕ)) (P : List ℕ → Type 0) → Stays before after → IfSome before P
+    → IfSome after P
 stays_told before None P s p = tt
 stays_told before (Some b) P s p = subst (λ o. IfSome o P) s p
 

@@ -129,8 +129,10 @@ abbrev pub EmulateAnswers : Change → List ℕ → List ℕ → List ℕ → St
 EmulateAnswers change name asm inputs statuses.Ok = SaysWords change name asm inputs
 EmulateAnswers change name asm inputs (statuses.WriteFault n) = SaysWordsPart change name asm inputs
 EmulateAnswers change name asm inputs (statuses.Stuck line) = FailsToRun change name asm inputs (statuses.Stuck line)
-EmulateAnswers change name asm inputs (statuses.Inputs given wanted) = FailsToRun change name asm inputs (statuses.Inputs given wanted)
-EmulateAnswers change name asm inputs (statuses.OutOfBounds word) = FailsToRun change name asm inputs (statuses.OutOfBounds word)
+EmulateAnswers change name asm inputs (statuses.Inputs given wanted) =
+    FailsToRun change name asm inputs (statuses.Inputs given wanted)
+EmulateAnswers change name asm inputs (statuses.OutOfBounds word) =
+    FailsToRun change name asm inputs (statuses.OutOfBounds word)
 EmulateAnswers change name asm inputs status = FailsToLoad change name asm status
 
 -- ---- all commands
@@ -154,12 +156,15 @@ OneLoad status before now = now ≡ raised_by 1 before
 abbrev pub TwoLoads : List ℕ → List ℕ → Status → ℕ → ℕ → Type 0
 TwoLoads name asm statuses.Ok before now = now ≡ raised_by 3 before
 TwoLoads name asm statuses.Usage before now = now ≡ before
-TwoLoads name asm (statuses.ReadFault n) before now = ((n ≡ name) × (now ≡ raised_by 1 before)) ⊎ ((n ≡ asm) × (now ≡ raised_by 2 before))
-TwoLoads name asm (statuses.TooLong n most) before now = ((n ≡ name) × (now ≡ raised_by 1 before)) ⊎ ((n ≡ asm) × (now ≡ raised_by 2 before))
+TwoLoads name asm (statuses.ReadFault n) before now = ((n ≡ name) × (now ≡ raised_by 1 before))
+    ⊎ ((n ≡ asm) × (now ≡ raised_by 2 before))
+TwoLoads name asm (statuses.TooLong n most) before now = ((n ≡ name) × (now ≡ raised_by 1 before))
+    ⊎ ((n ≡ asm) × (now ≡ raised_by 2 before))
 TwoLoads name asm statuses.NotJson before now = now ≡ raised_by 1 before
 TwoLoads name asm (statuses.Program code place) before now = now ≡ raised_by 1 before
 TwoLoads name asm (statuses.WriteFault n) before now = now ≡ raised_by 3 before
-TwoLoads name asm statuses.OutOfMemory before now = (now ≡ before) ⊎ ((now ≡ raised_by 1 before) ⊎ (now ≡ raised_by 2 before))
+TwoLoads name asm statuses.OutOfMemory before now = (now ≡ before)
+    ⊎ ((now ≡ raised_by 1 before) ⊎ (now ≡ raised_by 2 before))
 TwoLoads name asm status before now = now ≡ raised_by 2 before
 
 abbrev pub CommandCalls : Command → Status → ℕ → ℕ → Type 0

@@ -12,7 +12,7 @@ use Rattle.x86_meaning.specs.declared.state.State.{State}
 use Rattle.x86_meaning.specs.Machine.{Cells}
 use Rattle.x86_meaning.specs.Runs.{Outcome, Ended, Stuck, run_from}
 use Rattle.x86_meaning.specs.Start.{output_words}
-use Rattle.x86_meaning.specs.Stated.{IsStated, array_place}
+use Rattle.x86_meaning.specs.Stated.{IsStated, array_address}
 use Rattle.search_top.specs.declared.status.Status.{Status}
 use Rattle.search_top.specs.declared.status.Status.TheVariants as statuses
 use Rattle.search_top.specs.Outputs.{output_lines}
@@ -21,23 +21,24 @@ use Rattle.search_top.specs.Outputs.{output_lines}
 
 -- the word in a cell, and 0 where there is none
 abbrev pub cell_word : Cells → ℕ → ℕ
-cell_word cells place = option_map_or (λ word. word) (map.get cells place) 0
+cell_word cells address = option_map_or (λ word. word) (map.get cells address) 0
 
--- the words in so many cells from a place on
+-- the words in so many cells from an address on
 unfoldable pub words_at : Cells → ℕ → ℕ → List ℕ
-words_at cells place zero = []
-words_at cells place (suc n) = words_at cells place n ++ (cell_word cells (place + 8 * n) ∷ [])
+words_at cells address zero = []
+words_at cells address (suc n) = words_at cells address n ++ (cell_word cells (address + 8 * n) ∷ [])
 
 -- the words in the output arrays of parameters of which the first has this number
 abbrev pub words_from : Cells → ℕ → List Param → List ℕ
 words_from cells number [] = []
 words_from cells number (p ∷ ps) =
-    if is_output p.role then words_at cells (array_place number) (length p.bounds) ++ words_from cells (number + 1) ps
+    if is_output p.role then words_at cells (array_address number) (length p.bounds) ++ words_from cells (number + 1) ps
     else words_from cells (number + 1) ps
 
 -- all cells of the output arrays are there
 abbrev pub HasOutputs : List Param → Cells → Type 0
-HasOutputs params cells = (param word : ℕ) → word < output_words params param → IsSome (map.get cells (array_place param + 8 * word))
+HasOutputs params cells = (param word : ℕ) → word < output_words params param
+    → IsSome (map.get cells (array_address param + 8 * word))
 
 -- ---- the run
 

@@ -1,8 +1,8 @@
 -- The list of input words on a command line.
 use Rattle.std.specs.Prelude.{ℕ, ◌==◌, List, [], ◌∷◌, Option, Some, None}
 use Rattle.std.specs.List.{slice_split}
-use Rattle.word_text.specs.Options.{◌>>=◌}
-use Rattle.word_text.specs.Numbers.{word}
+use Rattle.base.specs.Options.{◌>>=◌}
+use Rattle.base.specs.Numbers.{word}
 
 -- the words that texts are, where each of them is one
 abbrev pub words_of : List (List ℕ) → Option (List ℕ)

@@ -27,9 +27,12 @@ IsLoaded told program = IfSome told (λ bytes. (length bytes ≤ limit) × IsPro
 -- of the file of this name, as far as the shelf tells it, and by the counts of faults before and after
 abbrev pub RefusesProgram : List ℕ → Option (List ℕ) → ℕ → ℕ → Status → Type 0
 RefusesProgram name told faults faults' (statuses.ReadFault n) = (n ≡ name) × Rose faults faults'
-RefusesProgram name told faults faults' (statuses.TooLong n most) = (n ≡ name) × (most ≡ limit) × IfSome told (λ bytes. limit < length bytes)
-RefusesProgram name told faults faults' statuses.NotJson = IfSome told (λ bytes. (length bytes ≤ limit) × IsNotJson bytes)
-RefusesProgram name told faults faults' (statuses.Program code place) = IfSome told (λ bytes. (length bytes ≤ limit) × Breaks bytes code place)
+RefusesProgram name told faults faults' (statuses.TooLong n most) = (n ≡ name) × (most ≡ limit)
+    × IfSome told (λ bytes. limit < length bytes)
+RefusesProgram name told faults faults' statuses.NotJson =
+    IfSome told (λ bytes. (length bytes ≤ limit) × IsNotJson bytes)
+RefusesProgram name told faults faults' (statuses.Program code place) =
+    IfSome told (λ bytes. (length bytes ≤ limit) × Breaks bytes code place)
 RefusesProgram name told faults faults' statuses.OutOfMemory = Unit {0}
 RefusesProgram name told faults faults' status = ⊥
 
@@ -42,7 +45,8 @@ pub record KeepsRules (listing : NamedLines) : Type 0 where
 
 -- the file that the shelf told before, where it told it, is a text of this listing, which keeps the rules
 abbrev pub IsListing : Option (List ℕ) → NamedLines → Type 0
-IsListing told listing = KeepsRules listing × IfSome told (λ bytes. (length bytes ≤ asm_limit) × Stands (lines bytes) listing)
+IsListing told listing = KeepsRules listing
+    × IfSome told (λ bytes. (length bytes ≤ asm_limit) × Stands (lines bytes) listing)
 
 -- the file has a text that stands for no listing, for this cause
 abbrev pub IsRefused : Option (List ℕ) → TextFault → Type 0
@@ -54,7 +58,8 @@ cause_of causes.NoReturn = texts.NoReturn
 
 abbrev pub RefusesListing : List ℕ → Option (List ℕ) → ℕ → ℕ → Status → Type 0
 RefusesListing name told faults faults' (statuses.ReadFault n) = (n ≡ name) × Rose faults faults'
-RefusesListing name told faults faults' (statuses.TooLong n most) = (n ≡ name) × (most ≡ asm_limit) × IfSome told (λ bytes. asm_limit < length bytes)
+RefusesListing name told faults faults' (statuses.TooLong n most) = (n ≡ name) × (most ≡ asm_limit)
+    × IfSome told (λ bytes. asm_limit < length bytes)
 RefusesListing name told faults faults' (statuses.Text line) = IsRefused told (texts.Line line)
 RefusesListing name told faults faults' (statuses.Listing fault) = IsRefused told (cause_of fault)
 RefusesListing name told faults faults' statuses.OutOfMemory = Unit {0}

@@ -7,7 +7,8 @@ use Rattle.word_program.specs.Values.{is_output}
 
 -- `NAME[INDEX] 0xWORD` and a line feed
 unfoldable pub word_line : List ℕ → ℕ → ℕ → List ℕ
-word_line name index word = name ++ (codes "[" ++ (decimal index ++ (codes "] 0x" ++ (encode_lower (to_be_bytes w64 word) ++ codes "\n"))))
+word_line name index word = name ++ (codes "["
+    ++ (decimal index ++ (codes "] 0x" ++ (encode_lower (to_be_bytes w64 word) ++ codes "\n"))))
 
 -- the words of an array from this index on
 abbrev pub array_lines : List ℕ → ℕ → List ℕ → List ℕ
@@ -18,5 +19,6 @@ array_lines name index (word ∷ words) = word_line name index word ++ array_lin
 abbrev pub output_lines : List Param → List ℕ → List ℕ
 output_lines [] words = []
 output_lines (p ∷ ps) words =
-    if is_output p.role then array_lines p.name 0 (take (length p.bounds) words) ++ output_lines ps (drop (length p.bounds) words)
+    if is_output p.role then array_lines p.name 0 (take (length p.bounds) words)
+    ++ output_lines ps (drop (length p.bounds) words)
     else output_lines ps words

@@ -1,6 +1,7 @@
 -- The plain listing of a program: each parameter and each value has a slot in the frame, and each operation
 -- loads its operands from their slots and stores its results.
-use Rattle.std.specs.Prelude.{ℕ, ◌+◌, ◌*◌, List, [], ◌∷◌, ◌++◌, length, Option, Some, None, pos, sum_by, option_map, slice_get, slice_index_or}
+use Rattle.std.specs.Prelude.{ℕ, ◌+◌, ◌*◌, List, [], ◌∷◌, ◌++◌, length, Option, Some, None, pos, sum_by, option_map}
+use Rattle.std.specs.Prelude.{slice_get, slice_index_or}
 use Rattle.word_program.specs.declared.parameter.Param.{Param}
 use Rattle.word_program.specs.declared.parameter.Role.{Role}
 use Rattle.word_program.specs.declared.parameter.Role.TheVariants.{Output, InputArray, InputScalar}
@@ -88,7 +89,8 @@ target_at op place = slice_index_or op.targets place targets.Unused
 -- Of each row the owned lines are the operation's own.
 abbrev pub block_of : Kind → List Param → ℕ → ℕ → Op → List Line
 block_of kinds.Copy params op_number value op =
-    load params Rcx (arg_at op 0) ++ owned op_number (instrs.Mov Rax (rms.Reg Rcx)) ∷ store params value (target_at op 0) Rax
+    load params Rcx (arg_at op 0) ++ owned op_number (instrs.Mov Rax (rms.Reg Rcx))
+    ∷ store params value (target_at op 0) Rax
 -- no listing of another kind is made yet
 block_of kind params op_number value op = []
 

@@ -1,6 +1,7 @@
 -- What `search` promises, by cases of its status. A shelf may tell what a file has, or what was said, or
 -- not: what it does not tell is None, and no promise speaks of it.
-use Rattle.std.specs.Prelude.{◌≡◌, ℕ, ◌+◌, ◌-◌, ◌^◌, ◌≤◌, ◌⊎◌, min, List, length, codes, decimal, ◌++◌, Option, None, IfSome, IsSome}
+use Rattle.std.specs.Prelude.{◌≡◌, ℕ, ◌+◌, ◌-◌, ◌^◌, ◌≤◌, ◌⊎◌, min, List, length, codes, decimal, ◌++◌, Option, None}
+use Rattle.std.specs.Prelude.{IfSome, IsSome}
 use Rattle.std.specs.Str.Lines.{lines}
 use Rattle.io_ports.specs.Shelf.{Stays, Grows, GrowsByPart}
 use Rattle.word_text.specs.declared.fault.Place.{Place}
@@ -136,13 +137,15 @@ pub record IsOpening (bytes text line : List ℕ) : Type 0 where
   pub correct : IsCorrect program (plain_lines program)
 
 -- Ok: ASM is published, and the opening cost was said
-pub record Succeeds (files : Files) (held held' : List ℕ → Option (List ℕ)) (said said' : Option (List ℕ)) : Type 0 where
+pub record Succeeds (files : Files) (held held' : List ℕ → Option (List ℕ))
+    (said said' : Option (List ℕ)) : Type 0 where
   pub program : Source
   pub publishes : Publishes (held files.program) (held' files.asm) program
   pub output : Grows said said' (opening_text program)
 
 -- the store of ASM failed, and nothing was said
-pub record FailsAtAsm (files : Files) (name : List ℕ) (held : List ℕ → Option (List ℕ)) (said said' : Option (List ℕ)) (calls calls' : ℕ) : Type 0 where
+pub record FailsAtAsm (files : Files) (name : List ℕ) (held : List ℕ → Option (List ℕ)) (said said' : Option (List ℕ))
+    (calls calls' : ℕ) : Type 0 where
   pub named : name ≡ files.asm
   pub program : Source
   pub read : IsRead (held files.program) program
@@ -150,7 +153,8 @@ pub record FailsAtAsm (files : Files) (name : List ℕ) (held : List ℕ → Opt
   pub made : calls' ≡ raised_by 2 calls
 
 -- standard output failed: ASM is published, and a part of the opening cost may have been said
-pub record FailsAtOutput (files : Files) (name : List ℕ) (held held' : List ℕ → Option (List ℕ)) (said said' : Option (List ℕ)) (calls calls' : ℕ) : Type 0 where
+pub record FailsAtOutput (files : Files) (name : List ℕ) (held held' : List ℕ → Option (List ℕ))
+    (said said' : Option (List ℕ)) (calls calls' : ℕ) : Type 0 where
   pub named : name ≡ codes "-"
   pub program : Source
   pub publishes : Publishes (held files.program) (held' files.asm) program

@@ -38,7 +38,8 @@ unfoldable pub code_text : ℕ → List ℕ
 code_text code = if nat_lt code 10 then 48 ∷ decimal code else decimal code
 
 unfoldable pub place_text : Place → List ℕ
-place_text place = section_text place.section ++ (codes " " ++ (decimal place.item ++ (codes " " ++ decimal place.inner)))
+place_text place = section_text place.section
+    ++ (codes " " ++ (decimal place.item ++ (codes " " ++ decimal place.inner)))
 
 unfoldable pub too_long_text : List ℕ → ℕ → List ℕ
 too_long_text name limit = name ++ (codes " has more than " ++ (decimal limit ++ codes " bytes"))

@@ -1,7 +1,8 @@
 -- The words of a command line, which are texts.
-use Rattle.std.specs.Prelude.{ℕ, Bool, false, not, ◌&&◌, ◌==◌, List, [], ◌∷◌, codes, Option, Some, None, option_map, if◌then◌else◌}
+use Rattle.std.specs.Prelude.{ℕ, Bool, false, not, ◌&&◌, ◌==◌, List, [], ◌∷◌, codes, Option, Some, None, option_map}
+use Rattle.std.specs.Prelude.{if◌then◌else◌}
 use Rattle.std.specs.Str.{bytes_eq}
-use Rattle.word_text.specs.Options.{◌>>=◌, holds}
+use Rattle.base.specs.Options.{◌>>=◌, guard}
 use Rattle.search_top.specs.Inputs.{inputs_or_none}
 use Rattle.search_top.specs.declared.words.FileNames.{FileNames}
 use Rattle.search_top.specs.declared.words.CommandWords.{CommandWords}
@@ -18,14 +19,16 @@ is_option [] = false
 is_option (c ∷ cs) = c == 45
 
 abbrev pub different_files : List ℕ → List ℕ → Option Files
-different_files program asm = holds (not (is_option program) && (not (is_option asm) && not (bytes_eq program asm))) (record { program = program; asm = asm })
+different_files program asm = guard (not (is_option program) && (not (is_option asm) && not (bytes_eq program asm)))
+    (record { program = program; asm = asm })
 
 -- the words `search PROGRAM ASM`, where neither of the two begins with `-` and they are not the same text
 abbrev pub files_of : List (List ℕ) → Option Files
 files_of [] = None
 files_of (command ∷ []) = None
 files_of (command ∷ program ∷ []) = None
-files_of (command ∷ program ∷ asm ∷ []) = if bytes_eq command (codes "search") then different_files program asm else None
+files_of (command ∷ program ∷ asm ∷ []) = if bytes_eq command (codes "search") then different_files program asm else
+    None
 files_of (command ∷ program ∷ asm ∷ word ∷ words) = None
 
 -- the names of a command line as texts
@@ -52,7 +55,7 @@ name_of word = if is_option word then None else Some word
 abbrev pub list_of : List (List ℕ) → Option (Option (List ℕ))
 list_of [] = Some None
 list_of (option ∷ []) = None
-list_of (option ∷ list ∷ []) = holds (bytes_eq option (codes "--in")) (Some list)
+list_of (option ∷ list ∷ []) = guard (bytes_eq option (codes "--in")) (Some list)
 list_of (option ∷ list ∷ word ∷ words) = None
 
 -- `PROGRAM`, then nothing or `--in LIST`

@@ -32,16 +32,25 @@ pub fn command<S: Shelf>(alloc: Global, words: &[String], shelf: &mut S) -> Stat
     // memory to read it.
     ensures usage { OnUsage result (command_of (map string_bytes words.now) ≡ None) }
     ensures form { command_texts (map string_bytes words.now) ≡ None → result ≡ Status.Usage }
-    ensures unknown { command_of (map string_bytes words.now) ≡ None → (result ≡ Status.Usage) ⊎ (result ≡ Status.OutOfMemory) }
+    ensures unknown { command_of (map string_bytes words.now) ≡ None
+        → (result ≡ Status.Usage) ⊎ (result ≡ Status.OutOfMemory) }
 
     // What each other status says of the files and of what was said.
-    ensures answer { IfCommand (map string_bytes words.now) (λ c. Answers (record { held = S.held shelf.old; said = S.said shelf.old; said' = S.said shelf.new; faults = S.faults shelf.old; faults' = S.faults shelf.new }) c result) }
+    ensures answer { IfCommand (map string_bytes words.now)
+        (λ c. Answers (record {
+          held = S.held shelf.old;
+          said = S.said shelf.old;
+          said' = S.said shelf.new;
+          faults = S.faults shelf.old;
+          faults' = S.faults shelf.new;
+        }) c result) }
 
     // Standard output could not be written, and the shelf counted it.
     ensures write_fault { IfWriteFault result (λ n. (n ≡ codes "-") × Rose (S.faults shelf.old) (S.faults shelf.new)) }
 
     // One load a file, and one word on standard output, each at most once.
-    ensures calls { IfCommand (map string_bytes words.now) (λ c. CommandCalls c result (S.calls shelf.old) (S.calls shelf.new)) }
+    ensures calls { IfCommand (map string_bytes words.now)
+        (λ c. CommandCalls c result (S.calls shelf.old) (S.calls shelf.new)) }
     ensures refusal_files { OnRefusal result ((n : List ℕ) → S.held shelf.new n ≡ S.held shelf.old n) }
     ensures refusal_output { OnRefusal result (S.said shelf.new ≡ S.said shelf.old) }
 

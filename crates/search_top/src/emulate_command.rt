@@ -19,7 +19,14 @@ pub fn emulate_file<S: Shelf>(
     inputs: &[u64],
     shelf: &mut S,
 ) -> Status
-    ensures answer { EmulateAnswers (record { held = S.held shelf.old; said = S.said shelf.old; said' = S.said shelf.new; faults = S.faults shelf.old; faults' = S.faults shelf.new }) program.now asm.now inputs.now result }
+    ensures answer { EmulateAnswers (record {
+      held = S.held shelf.old;
+      said = S.said shelf.old;
+      said' = S.said shelf.new;
+      faults = S.faults shelf.old;
+      faults' = S.faults shelf.new;
+    }) program.now asm.now
+        inputs.now result }
     ensures write_fault { IfWriteFault result (λ n. (n ≡ codes "-") × Rose (S.faults shelf.old) (S.faults shelf.new)) }
     ensures calls { TwoLoads program.now asm.now result (S.calls shelf.old) (S.calls shelf.new) }
     ensures refusal_files { OnRefusal result ((n : List ℕ) → S.held shelf.new n ≡ S.held shelf.old n) }

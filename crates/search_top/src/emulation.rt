@@ -1,7 +1,7 @@
 ghost use Rattle.std.specs.Prelude.{◌≡◌, ◌++◌, ◌<◌, ◌≤◌, IfOk, IfErr, OnOk, length, string_bytes};
 ghost use Rattle.std.specs.List.{AllByRecursion};
 ghost use Rattle.word_program.specs.Accepted.{IsParam};
-ghost use Rattle.x86_meaning.specs.Stated.{array_place};
+ghost use Rattle.x86_meaning.specs.Stated.{array_address};
 ghost use Rattle.search_top.specs.Outputs as spec;
 ghost use Rattle.search_top.specs.Emulation.{RefusesRun, Tells, cell_word, words_at, words_from};
 
@@ -45,7 +45,8 @@ pub fn emulated_lines(
 fn cell_lines(alloc: Global, params: &[Param], cells: &Cells) -> Result<String, AllocError>
     requires few { length params.now ≤ 6 }
     requires params { AllByRecursion IsParam params.now }
-    ensures { IfOk result (λ lines. string_bytes lines ≡ spec.output_lines params.now (words_from cells.now 0 params.now)) }
+    ensures { IfOk result (λ lines. string_bytes lines ≡ spec.output_lines params.now
+        (words_from cells.now 0 params.now)) }
 {
     let words = output_words(alloc, params, cells)?;
     output_lines(alloc, params, words.as_slice())
@@ -76,7 +77,8 @@ fn push_array(
 ) -> Result<(), AllocError>
     requires few { number < 6 }
     requires param { length param.now.bounds ≤ 32 }
-    ensures { OnOk result (words.new.items ≡ words.old.items ++ words_at cells.entry.now (array_place number) (length param.entry.now.bounds)) }
+    ensures { OnOk result (words.new.items ≡ words.old.items
+        ++ words_at cells.entry.now (array_address number) (length param.entry.now.bounds)) }
 {
     let first = ARRAY_STEP * (number + 1);
     for word in 0..param.bounds.items().len() as u64 {
@@ -86,10 +88,10 @@ fn push_array(
 }
 
 /// The word in a cell, and 0 where there is none.
-fn cell_word(cells: &Cells, place: u64) -> u64
-    ensures { result ≡ cell_word cells.now place }
+fn cell_word(cells: &Cells, address: u64) -> u64
+    ensures { result ≡ cell_word cells.now address }
 {
-    match cells.get(place) {
+    match cells.get(address) {
         Some(word) => word,
         None => 0,
     }

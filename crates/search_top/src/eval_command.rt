@@ -12,7 +12,13 @@ use word_program::{EvalFault, Text, eval};
 
 /// Says the outputs of the program in a file on these inputs.
 pub fn eval_file<S: Shelf>(alloc: Global, program: &str, inputs: &[u64], shelf: &mut S) -> Status
-    ensures answer { EvalAnswers (record { held = S.held shelf.old; said = S.said shelf.old; said' = S.said shelf.new; faults = S.faults shelf.old; faults' = S.faults shelf.new }) program.now inputs.now result }
+    ensures answer { EvalAnswers (record {
+      held = S.held shelf.old;
+      said = S.said shelf.old;
+      said' = S.said shelf.new;
+      faults = S.faults shelf.old;
+      faults' = S.faults shelf.new;
+    }) program.now inputs.now result }
     ensures write_fault { IfWriteFault result (λ n. (n ≡ codes "-") × Rose (S.faults shelf.old) (S.faults shelf.new)) }
     ensures calls { OneLoad result (S.calls shelf.old) (S.calls shelf.new) }
     ensures refusal_files { OnRefusal result ((n : List ℕ) → S.held shelf.new n ≡ S.held shelf.old n) }

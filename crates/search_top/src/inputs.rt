@@ -7,7 +7,8 @@ use std::alloc::{AllocError, Global};
 /// The words of a list with commas, and none where a piece of it is no word. A list that is not there has no
 /// words.
 pub fn inputs_or_none(alloc: Global, list: Option<&str>) -> Result<Option<Vec<u64>>, AllocError>
-    ensures { IfOk result (λ found. option_map (λ v. v.items) found ≡ spec.inputs_or_none (option_map (λ l. l.now) list.entry)) }
+    ensures { IfOk result (λ found. option_map (λ v. v.items) found ≡ spec.inputs_or_none
+        (option_map (λ l. l.now) list.entry)) }
 {
     match list {
         None => Ok(Some(Vec::new(alloc))),
@@ -34,7 +35,7 @@ fn words_of(alloc: Global, texts: &[&str]) -> Result<Option<Vec<u64>>, AllocErro
 {
     let mut words = Vec::new(alloc);
     for text in texts {
-        let Some(word) = word_text::word(text) else {
+        let Some(word) = base::word(text.as_bytes()) else {
             return Ok(None);
         };
         words.push(word)?;

@@ -26,7 +26,8 @@ pub fn load_program<S: Shelf>(
 ) -> Result<Program, Status>
     requires { label ≡ name.now }
     ensures program { IfOk result (IsLoaded (S.held shelf.old name.now)) }
-    ensures refused { IfErr result (RefusesProgram name.now (S.held shelf.old name.now) (S.faults shelf.old) (S.faults shelf.new)) }
+    ensures refused { IfErr result (RefusesProgram name.now (S.held shelf.old name.now) (S.faults shelf.old)
+        (S.faults shelf.new)) }
     ensures files { (n : List ℕ) → S.held shelf.new n ≡ S.held shelf.old n }
     ensures output { S.said shelf.new ≡ S.said shelf.old }
     ensures count { S.calls shelf.new ≡ raised (S.calls shelf.old) }
@@ -56,7 +57,8 @@ pub fn load_listing<S: Shelf>(
 ) -> Result<Listing, Status>
     requires { label ≡ name.now }
     ensures listing { IfOk result (IsListing (S.held shelf.old name.now)) }
-    ensures refused { IfErr result (RefusesListing name.now (S.held shelf.old name.now) (S.faults shelf.old) (S.faults shelf.new)) }
+    ensures refused { IfErr result (RefusesListing name.now (S.held shelf.old name.now) (S.faults shelf.old)
+        (S.faults shelf.new)) }
     ensures files { (n : List ℕ) → S.held shelf.new n ≡ S.held shelf.old n }
     ensures output { S.said shelf.new ≡ S.said shelf.old }
     ensures count { S.calls shelf.new ≡ raised (S.calls shelf.old) }

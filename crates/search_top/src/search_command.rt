@@ -1,8 +1,11 @@
-ghost use Rattle.std.specs.Prelude.{◌≡◌, ◌≢◌, ◌↔◌, ◌⊎◌, ℕ, List, IfSome, None, IfOk, ◌<◌, ◌≤◌, length, map, string_bytes, codes};
+ghost use Rattle.std.specs.Prelude.{◌≡◌, ◌≢◌, ◌↔◌, ◌⊎◌, ℕ, List, IfSome, None, IfOk, ◌<◌, ◌≤◌, length, map};
+ghost use Rattle.std.specs.Prelude.{string_bytes, codes};
 ghost use Rattle.io_ports.specs.Shelf.{Rose, Stays};
 ghost use Rattle.search_top.specs.Words.{Files, texts_of, files_of};
 ghost use Rattle.fiat_json.specs.Reading.{IsNotJson};
-ghost use Rattle.search_top.specs.Search.{limit, HasFault, raised_by, IfReadFault, IfTooLong, OnNotJson, IfFiles, IfProgram, IfWriteFault, OnSuccess, OnRefusal, CallsAfter, Succeeds, FailsAtAsm, FailsAtOutput};
+ghost use Rattle.search_top.specs.Search.{limit, HasFault, raised_by, IfReadFault, IfTooLong, OnNotJson, IfFiles};
+ghost use Rattle.search_top.specs.Search.{IfProgram, IfWriteFault, OnSuccess, OnRefusal, CallsAfter, Succeeds};
+ghost use Rattle.search_top.specs.Search.{FailsAtAsm, FailsAtOutput};
 
 use crate::loading::PROGRAM_LIMIT;
 use crate::status::Status;
@@ -35,18 +38,26 @@ fn names_of(alloc: Global, files: FileNames<'_>) -> Result<StatusNames, AllocErr
 
 fn search_files<S: Shelf>(alloc: Global, files: FileNames<'_>, shelf: &mut S) -> Status
     ensures not_usage { result ≢ Status.Usage }
-    ensures read_fault { IfReadFault result (λ name. (name ≡ files.entry.program.now) × Rose (S.faults shelf.old) (S.faults shelf.new)) }
-    ensures too_long { IfTooLong result (λ name most. (name ≡ files.entry.program.now) × (most ≡ limit) × IfSome (S.held shelf.old files.entry.program.now) (λ bytes. limit < length bytes)) }
-    ensures not_json { OnNotJson result (IfSome (S.held shelf.old files.entry.program.now) (λ bytes. (length bytes ≤ limit) × IsNotJson bytes)) }
-    ensures program_fault { IfProgram result (λ code place. IfSome (S.held shelf.old files.entry.program.now) (λ bytes. (length bytes ≤ limit) × HasFault bytes code place)) }
+    ensures read_fault { IfReadFault result
+        (λ name. (name ≡ files.entry.program.now) × Rose (S.faults shelf.old) (S.faults shelf.new)) }
+    ensures too_long { IfTooLong result (λ name most. (name ≡ files.entry.program.now) × (most ≡ limit)
+        × IfSome (S.held shelf.old files.entry.program.now) (λ bytes. limit < length bytes)) }
+    ensures not_json { OnNotJson result (IfSome (S.held shelf.old files.entry.program.now)
+        (λ bytes. (length bytes ≤ limit) × IsNotJson bytes)) }
+    ensures program_fault { IfProgram result
+        (λ code place. IfSome (S.held shelf.old files.entry.program.now)
+        (λ bytes. (length bytes ≤ limit) × HasFault bytes code place)) }
     ensures refusal_files { OnRefusal result ((n : List ℕ) → S.held shelf.new n ≡ S.held shelf.old n) }
     ensures refusal_output { OnRefusal result (S.said shelf.new ≡ S.said shelf.old) }
     ensures calls { CallsAfter result (S.calls shelf.old) (S.calls shelf.new) }
     ensures write_fault { IfWriteFault result (λ name. Rose (S.faults shelf.old) (S.faults shelf.new)) }
     ensures written { IfWriteFault result (λ name.
-        FailsAtAsm (texts_of files.entry) name (S.held shelf.old) (S.said shelf.old) (S.said shelf.new) (S.calls shelf.old) (S.calls shelf.new)
-        ⊎ FailsAtOutput (texts_of files.entry) name (S.held shelf.old) (S.held shelf.new) (S.said shelf.old) (S.said shelf.new) (S.calls shelf.old) (S.calls shelf.new)) }
-    ensures success { OnSuccess result (Succeeds (texts_of files.entry) (S.held shelf.old) (S.held shelf.new) (S.said shelf.old) (S.said shelf.new)) }
+        FailsAtAsm (texts_of files.entry) name (S.held shelf.old) (S.said shelf.old) (S.said shelf.new)
+        (S.calls shelf.old) (S.calls shelf.new)
+        ⊎ FailsAtOutput (texts_of files.entry) name (S.held shelf.old) (S.held shelf.new) (S.said shelf.old)
+        (S.said shelf.new) (S.calls shelf.old) (S.calls shelf.new)) }
+    ensures success { OnSuccess result (Succeeds (texts_of files.entry) (S.held shelf.old) (S.held shelf.new)
+        (S.said shelf.old) (S.said shelf.new)) }
     ensures others { (n : List ℕ) → n ≢ files.entry.asm.now → Stays (S.held shelf.old n) (S.held shelf.new n) }
 {
     let Ok(names) = names_of(alloc, files) else {
@@ -104,8 +115,10 @@ pub fn search<S: Shelf>(alloc: Global, words: &[String], shelf: &mut S) -> Statu
     // PROGRAM is a program, and ASM or standard output could not be written; what was written before stands.
     ensures write_fault { IfWriteFault result (λ name. Rose (S.faults shelf.old) (S.faults shelf.new)) }
     ensures written { IfWriteFault result (λ name. IfFiles (map string_bytes words.now) (λ files.
-        FailsAtAsm files name (S.held shelf.old) (S.said shelf.old) (S.said shelf.new) (S.calls shelf.old) (S.calls shelf.new)
-        ⊎ FailsAtOutput files name (S.held shelf.old) (S.held shelf.new) (S.said shelf.old) (S.said shelf.new) (S.calls shelf.old) (S.calls shelf.new))) }
+        FailsAtAsm files name (S.held shelf.old) (S.said shelf.old) (S.said shelf.new) (S.calls shelf.old)
+        (S.calls shelf.new)
+        ⊎ FailsAtOutput files name (S.held shelf.old) (S.held shelf.new) (S.said shelf.old) (S.said shelf.new)
+        (S.calls shelf.old) (S.calls shelf.new))) }
 
     // PROGRAM is a program, ASM is the text of its plain listing, which is correct, and its cost was said.
     ensures success { OnSuccess result (IfFiles (map string_bytes words.now) (λ files.

@@ -12,7 +12,13 @@ use word_program::Text;
 
 /// Says the text of the listing in a file.
 pub fn show_file<S: Shelf>(alloc: Global, asm: &str, shelf: &mut S) -> Status
-    ensures answer { ShowAnswers (record { held = S.held shelf.old; said = S.said shelf.old; said' = S.said shelf.new; faults = S.faults shelf.old; faults' = S.faults shelf.new }) asm.now result }
+    ensures answer { ShowAnswers (record {
+      held = S.held shelf.old;
+      said = S.said shelf.old;
+      said' = S.said shelf.new;
+      faults = S.faults shelf.old;
+      faults' = S.faults shelf.new;
+    }) asm.now result }
     ensures write_fault { IfWriteFault result (λ n. (n ≡ codes "-") × Rose (S.faults shelf.old) (S.faults shelf.new)) }
     ensures calls { OneLoad result (S.calls shelf.old) (S.calls shelf.new) }
     ensures refusal_files { OnRefusal result ((n : List ℕ) → S.held shelf.new n ≡ S.held shelf.old n) }

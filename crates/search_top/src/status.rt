@@ -1,5 +1,6 @@
 ghost use Rattle.std.specs.Prelude.{◌≡◌, ◌++◌, IfOk, OnOk, decimal, string_bytes};
-ghost use Rattle.search_top.specs.Status.{exit_of, listing_text, section_text, code_text, place_text, too_long_text, program_fault_text, inputs_text, out_of_bounds_text, line_of};
+ghost use Rattle.search_top.specs.Status.{exit_of, listing_text, section_text, code_text, place_text, too_long_text};
+ghost use Rattle.search_top.specs.Status.{program_fault_text, inputs_text, out_of_bounds_text, line_of};
 
 use itoa::Buffer;
 use std::alloc::{AllocError, Global};

@@ -1,5 +1,6 @@
 ghost use Rattle.std.specs.Prelude.{◌≡◌, option_map, map, string_bytes};
-ghost use Rattle.search_top.specs.Words.{command_view, command_texts, different_files, emulate_words, eval_words, files_of, is_option, list_of, name_of, show_words};
+ghost use Rattle.search_top.specs.Words.{command_view, command_texts, different_files, emulate_words, eval_words};
+ghost use Rattle.search_top.specs.Words.{files_of, is_option, list_of, name_of, show_words};
 
 /// The files that a command line of `search` names, which are different texts.
 #[derive(Clone, Copy)]
@@ -12,7 +13,8 @@ pub struct FileNames<'a> {
 
 /// The files of the words `search PROGRAM ASM`, and none where the words have another form.
 pub fn files_of(words: &[String]) -> Option<FileNames<'_>>
-    ensures { option_map (λ f. record { program = f.program.now; asm = f.asm.now }) result ≡ files_of (map string_bytes words.now) }
+    ensures { option_map (λ f. record { program = f.program.now; asm = f.asm.now }) result ≡ files_of
+        (map string_bytes words.now) }
 {
     let [command, program, asm] = words else {
         return None;
@@ -24,7 +26,8 @@ pub fn files_of(words: &[String]) -> Option<FileNames<'_>>
 }
 
 fn different_files<'a>(program: &'a str, asm: &'a str) -> Option<FileNames<'a>>
-    ensures { option_map (λ f. record { program = f.program.now; asm = f.asm.now }) result ≡ different_files program.entry.now asm.entry.now }
+    ensures { option_map (λ f. record { program = f.program.now; asm = f.asm.now }) result
+        ≡ different_files program.entry.now asm.entry.now }
 {
     if is_option(program) || is_option(asm) || program == asm {
         return None;

@@ -13,7 +13,9 @@ use Rattle.word_program.specs.declared.operation.Target.{Target}
 use Rattle.word_program.specs.declared.operation.Target.TheVariants as targets
 use Rattle.word_program.specs.Program.{Source}
 use Rattle.x86_instr.specs.declared.mnemonic.Mnemonic.{Mnemonic}
-use Rattle.x86_instr.specs.declared.mnemonic.Mnemonic.TheVariants.{Adc, Adcx, Add, Adox, And, Cmovc, Cmovnz, Imul, Lea, Mov, Mul, Mulx, Not, Or, Sbb, Shl, Shlx, Shr, Shrd, Shrx, Sub, Test, Xor}
+use Rattle.x86_instr.specs.declared.mnemonic.Mnemonic.TheVariants.{Adc, Adcx, Add, Adox, And, Cmovc, Cmovnz, Imul, Lea}
+use Rattle.x86_instr.specs.declared.mnemonic.Mnemonic.TheVariants.{Mov, Mul, Mulx, Not, Or, Sbb, Shl, Shlx, Shr, Shrd}
+use Rattle.x86_instr.specs.declared.mnemonic.Mnemonic.TheVariants.{Shrx, Sub, Test, Xor}
 
 -- ---- when a template is there
 
@@ -32,12 +34,12 @@ abbrev pub always : Op → Bool
 always op = true
 
 -- where the carry or borrow that goes in is the literal 0
-abbrev pub from_zero : Op → Bool
-from_zero op = option_map_or is_zero (slice_get op.args 0) false
+abbrev pub carry_in_zero : Op → Bool
+carry_in_zero op = option_map_or is_zero (slice_get op.args 0) false
 
 -- where beside that the carry that comes out is unused
-abbrev pub from_zero_to_none : Op → Bool
-from_zero_to_none op = from_zero op && option_map_or is_unused (slice_get op.targets 1) false
+abbrev pub carry_in_zero_out_unused : Op → Bool
+carry_in_zero_out_unused op = carry_in_zero op && option_map_or is_unused (slice_get op.targets 1) false
 
 -- ---- the table
 
@@ -55,12 +57,12 @@ rows_of kinds.AddCarry =
     row always (Adc ∷ [])
     ∷ row always (Adcx ∷ [])
     ∷ row always (Adox ∷ [])
-    ∷ row from_zero (Add ∷ [])
-    ∷ row from_zero_to_none (Lea ∷ [])
+    ∷ row carry_in_zero (Add ∷ [])
+    ∷ row carry_in_zero_out_unused (Lea ∷ [])
     ∷ []
 rows_of kinds.SubBorrow =
     row always (Sbb ∷ [])
-    ∷ row from_zero (Sub ∷ [])
+    ∷ row carry_in_zero (Sub ∷ [])
     ∷ []
 rows_of kinds.MulX =
     row always (Mulx ∷ [])

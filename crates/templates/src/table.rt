@@ -5,8 +5,8 @@ use word_program::{Kind, Op, Operand, Target};
 use x86_instr::Mnemonic;
 
 /// Whether the carry or borrow that goes in is the literal 0.
-fn from_zero(op: &Op) -> bool
-    ensures { result ≡ spec.from_zero op.now }
+fn carry_in_zero(op: &Op) -> bool
+    ensures { result ≡ spec.carry_in_zero op.now }
 {
     match op.args.items().first() {
         Some(Operand::Literal(number)) => *number == 0,
@@ -15,10 +15,10 @@ fn from_zero(op: &Op) -> bool
 }
 
 /// Whether beside that the carry that comes out is unused.
-fn from_zero_to_none(op: &Op) -> bool
-    ensures { result ≡ spec.from_zero_to_none op.now }
+fn carry_in_zero_out_unused(op: &Op) -> bool
+    ensures { result ≡ spec.carry_in_zero_out_unused op.now }
 {
-    if !from_zero(op) {
+    if !carry_in_zero(op) {
         return false;
     }
     match op.targets.items().get(1) {
@@ -35,8 +35,8 @@ pub fn template_count(op: &Op) -> u8
     ensures few { result ≤ 5 }
 {
     match op.kind {
-        Kind::AddCarry => 3 + from_zero(op) as u8 + from_zero_to_none(op) as u8,
-        Kind::SubBorrow => 1 + from_zero(op) as u8,
+        Kind::AddCarry => 3 + carry_in_zero(op) as u8 + carry_in_zero_out_unused(op) as u8,
+        Kind::SubBorrow => 1 + carry_in_zero(op) as u8,
         Kind::MulX | Kind::Mul | Kind::Add => 2,
         Kind::Sub | Kind::And | Kind::Or | Kind::Xor | Kind::Not | Kind::Copy => 1,
         Kind::Shl(_) | Kind::Shr(_) | Kind::Shrd(_) | Kind::CMov => 2,

@@ -1,10 +1,13 @@
 -- The table of operations: the helper functions of Fiat Cryptography (addcarryx, subborrowx, mulx and
 -- cmovznz), and plain word operations. A shift's count is a literal in the program and stands in the kind.
 -- In the table of kinds it is 0.
-use Rattle.std.specs.Prelude.{ℕ, ◌+◌, ◌-◌, ◌*◌, ◌/◌, ◌%◌, ◌^◌, Bool, true, false, ◌&&◌, ◌||◌, ◌==◌, nat_lt, List, [], ◌∷◌, codes, Option, find, slice_index, slice_index_or, bit_and, bit_or, bit_xor, if◌then◌else◌}
+use Rattle.std.specs.Prelude.{ℕ, ◌+◌, ◌-◌, ◌*◌, ◌/◌, ◌%◌, ◌^◌, Bool, true, false, ◌&&◌, ◌||◌, ◌==◌, nat_lt, List, []}
+use Rattle.std.specs.Prelude.{◌∷◌, codes, Option, find, slice_index, slice_index_or, bit_and, bit_or, bit_xor}
+use Rattle.std.specs.Prelude.{if◌then◌else◌}
 use Rattle.std.specs.Str.{bytes_eq}
 use Rattle.word_operations.specs.declared.kind.Kind.{Kind}
-use Rattle.word_operations.specs.declared.kind.Kind.TheVariants.{AddCarry, SubBorrow, MulX, CMov, Add, Sub, Mul, And, Or, Xor, Not, Copy, Shl, Shr, Shrd}
+use Rattle.word_operations.specs.declared.kind.Kind.TheVariants.{AddCarry, SubBorrow, MulX, CMov, Add, Sub, Mul, And}
+use Rattle.word_operations.specs.declared.kind.Kind.TheVariants.{Or, Xor, Not, Copy, Shl, Shr, Shrd}
 
 -- ---- the form of an operation
 
@@ -54,26 +57,26 @@ operand_count (Shr count) = 1
 operand_count (Shrd count) = 2
 
 -- its last argument is a shift count
-abbrev pub has_count : Kind → Bool
-has_count AddCarry = false
-has_count SubBorrow = false
-has_count MulX = false
-has_count CMov = false
-has_count Add = false
-has_count Sub = false
-has_count Mul = false
-has_count And = false
-has_count Or = false
-has_count Xor = false
-has_count Not = false
-has_count Copy = false
-has_count (Shl count) = true
-has_count (Shr count) = true
-has_count (Shrd count) = true
+abbrev pub takes_shift : Kind → Bool
+takes_shift AddCarry = false
+takes_shift SubBorrow = false
+takes_shift MulX = false
+takes_shift CMov = false
+takes_shift Add = false
+takes_shift Sub = false
+takes_shift Mul = false
+takes_shift And = false
+takes_shift Or = false
+takes_shift Xor = false
+takes_shift Not = false
+takes_shift Copy = false
+takes_shift (Shl count) = true
+takes_shift (Shr count) = true
+takes_shift (Shrd count) = true
 
 -- how many arguments it has: the operands, and a shift count after them
 abbrev pub argument_count : Kind → ℕ
-argument_count kind = operand_count kind + (if has_count kind then 1 else 0)
+argument_count kind = operand_count kind + (if takes_shift kind then 1 else 0)
 
 -- how many results it has
 abbrev pub result_count : Kind → ℕ
@@ -115,26 +118,26 @@ takes_bit (Shrd count) = false
 abbrev pub needs_bit : Kind → ℕ → Bool
 needs_bit kind place = takes_bit kind && place == 0
 
-abbrev pub needs_count : Kind → ℕ → Bool
-needs_count kind place = has_count kind && place == operand_count kind
+abbrev pub needs_shift : Kind → ℕ → Bool
+needs_shift kind place = takes_shift kind && place == operand_count kind
 
 -- the kind with this shift count, where it has one
-abbrev pub with_count : Kind → ℕ → Kind
-with_count AddCarry n = AddCarry
-with_count SubBorrow n = SubBorrow
-with_count MulX n = MulX
-with_count CMov n = CMov
-with_count Add n = Add
-with_count Sub n = Sub
-with_count Mul n = Mul
-with_count And n = And
-with_count Or n = Or
-with_count Xor n = Xor
-with_count Not n = Not
-with_count Copy n = Copy
-with_count (Shl count) n = Shl n
-with_count (Shr count) n = Shr n
-with_count (Shrd count) n = Shrd n
+abbrev pub with_shift : Kind → ℕ → Kind
+with_shift AddCarry n = AddCarry
+with_shift SubBorrow n = SubBorrow
+with_shift MulX n = MulX
+with_shift CMov n = CMov
+with_shift Add n = Add
+with_shift Sub n = Sub
+with_shift Mul n = Mul
+with_shift And n = And
+with_shift Or n = Or
+with_shift Xor n = Xor
+with_shift Not n = Not
+with_shift Copy n = Copy
+with_shift (Shl count) n = Shl n
+with_shift (Shr count) n = Shr n
+with_shift (Shrd count) n = Shrd n
 
 -- ---- what an operation computes
 
@@ -183,4 +186,5 @@ bits_on (Shr k) a y z = (k == 63) ∷ []
 bits_on (Shrd k) lo hi z = false ∷ []
 
 abbrev pub result_bits : Kind → List Bool → List Bool
-result_bits kind bits = bits_on kind (slice_index_or bits 0 false) (slice_index_or bits 1 false) (slice_index_or bits 2 false)
+result_bits kind bits = bits_on kind (slice_index_or bits 0 false) (slice_index_or bits 1 false)
+    (slice_index_or bits 2 false)

@@ -11,4 +11,4 @@ mod table;
 pub use arithmetic::push_results;
 pub use bits::{first_bit, second_bit};
 pub use kind::Kind;
-pub use table::{argument_count, kind_named, needs_bit, needs_count, with_count};
+pub use table::{argument_count, kind_named, needs_bit, needs_shift, with_shift};

@@ -77,8 +77,8 @@ impl Kind {
     }
 
     /// Whether its last argument is a shift count.
-    pub fn has_count(self) -> bool
-        ensures { result ≡ spec.has_count self }
+    pub fn takes_shift(self) -> bool
+        ensures { result ≡ spec.takes_shift self }
     {
         match self {
             Kind::Shl(_) | Kind::Shr(_) | Kind::Shrd(_) => true,
@@ -111,7 +111,7 @@ impl Kind {
 pub fn argument_count(kind: Kind) -> usize
     ensures { result ≡ spec.argument_count kind }
 {
-    if kind.has_count() {
+    if kind.takes_shift() {
         kind.operand_count() + 1
     } else {
         kind.operand_count()
@@ -126,15 +126,15 @@ pub fn needs_bit(kind: Kind, place: usize) -> bool
 }
 
 /// Whether the argument at this place is a shift count.
-pub fn needs_count(kind: Kind, place: usize) -> bool
-    ensures { result ≡ spec.needs_count kind place }
+pub fn needs_shift(kind: Kind, place: usize) -> bool
+    ensures { result ≡ spec.needs_shift kind place }
 {
-    kind.has_count() && place == kind.operand_count()
+    kind.takes_shift() && place == kind.operand_count()
 }
 
 /// The kind with this shift count, where it has one.
-pub fn with_count(kind: Kind, count: u8) -> Kind
-    ensures { result ≡ spec.with_count kind count }
+pub fn with_shift(kind: Kind, count: u8) -> Kind
+    ensures { result ≡ spec.with_shift kind count }
 {
     match kind {
         Kind::Shl(_) => Kind::Shl(count),

@@ -1,14 +1,16 @@
 -- What every program keeps.
-use Rattle.std.proofs.Common.{◌≡◌, ℕ, ◌+◌, ◌≤◌, Bool, true, false, List, length, refl, arith, sym, ◌∙◌, subst, zero-add, []}
+use Rattle.std.proofs.Common.{◌≡◌, ℕ, ◌+◌, ◌≤◌, Bool, true, false, List, length, refl, arith, sym, ◌∙◌, subst, zero-add}
+use Rattle.std.proofs.Common.{[]}
 use Rattle.std.proofs.lemmas.Bool.Decides.{nat_tests}
 use Rattle.std.specs.Prelude.{None, not, ◌==◌, nat_lt}
 use Rattle.word_text.specs.declared.fault.Section.TheVariants.{Top}
 use Rattle.word_text.specs.declared.parts.RawProgram.{RawProgram}
-use Rattle.word_text.specs.Texts.{is_identifier}
+use Rattle.base.specs.Identifiers.{is_identifier}
 use Rattle.word_program.specs.declared.operation.Target.{Target}
 use Rattle.word_program.specs.Program.{Source}
 use Rattle.word_program.specs.Walk.{first_code, at, place_in, walk}
-use Rattle.word_program.specs.Rules.{top_rules, params_fault, body_fault, params_of, first_fault, program_of, start, scope_after, operation_fault, with_operation}
+use Rattle.word_program.specs.Rules.{top_rules, params_fault, body_fault, params_of, first_fault, program_of, start}
+use Rattle.word_program.specs.Rules.{scope_after, operation_fault, with_operation}
 use Rattle.word_program.specs.Accepted.{IsAccepted, IsKept, AreOps, IsOutputWord}
 use Rattle.word_program.proofs.RowLemmas.{rows4, at_none, or_none, not_false}
 use Rattle.word_program.proofs.OpsKept.{ops_kept}
@@ -32,7 +34,8 @@ pub record IsTop (p : RawProgram) : Type 0 where
 pub top_kept : (p : RawProgram) → first_code (top_rules p) ≡ None → IsTop p
 unfolding top_rules
 top_kept p none =
-    let r = rows4 2 5 6 15 (not (is_identifier p.name)) (nat_lt 6 (length p.returns + length p.arguments)) (nat_lt 2048 (length p.body)) (length p.returns == 0) none in
+    let r = rows4 2 5 6 15 (not (is_identifier p.name)) (nat_lt 6 (length p.returns + length p.arguments))
+    (nat_lt 2048 (length p.body)) (length p.returns == 0) none in
     record { name = not_false _ r.0; params = at_most _ _ r.1; some_return = some_number _ r.3; ops = at_most _ _ r.2 }
 
 -- parts that break no rule are a program that keeps it
@@ -43,7 +46,8 @@ accepted p none =
     let b = or_none (params_fault p) (body_fault (params_of p) p.body) a.1 in
     let top = top_kept p (at_none (place_in Top 0 0) (top_rules p) a.0) in
     let body = or_none (walk operation_fault with_operation (start (params_of p)) 0 p.body) _ b.1 in
-    let kept : IsScope (params_of p) (scope_after (params_of p) p.body) = scope_fact (params_of p) (params_of p) p.body _ refl refl in
+    let kept : IsScope (params_of p) (scope_after (params_of p) p.body) =
+    scope_fact (params_of p) (params_of p) p.body _ refl refl in
     let values = targets_count p.body (start (params_of p)) 0 body.0 in
     let body_limit = top.ops in
     let few : length (scope_after (params_of p) p.body).targets ≤ 4096 = omega arith in
@@ -51,15 +55,18 @@ accepted p none =
     let none_yet : AtMostOnce [] = record { once = λ (param word : ℕ). omega arith } in
     let once = ops_once p.body (start (params_of p)) 0 body.0 none_yet in
     let once_written = written_once (scope_after (params_of p) p.body).targets (params_of p) body.1 once in
-    let written = subst (λ (ts : List Target). (param word : ℕ) → IsOutputWord (params_of p) param word → count_by (is_at param word) ts ≡ 1) kept.targets_kept once_written in
+    let written = subst (λ (ts : List Target). (param word : ℕ) → IsOutputWord (params_of p) param word
+    → count_by (is_at param word) ts ≡ 1) kept.targets_kept once_written in
     record {
       written = written;
-      some_ops = some_ops p.returns p.arguments (scope_after (params_of p) p.body).ops top.some_return (params_kept p b.0) written;
+      some_ops = some_ops p.returns p.arguments (scope_after (params_of p) p.body).ops top.some_return
+          (params_kept p b.0) written;
       name = top.name;
       ops = subst (AreOps (params_of p) []) (sym ops.behind) ops.legal;
       params_limit = subst (λ (n : ℕ). n ≤ 6) (sym (params_count p)) top.params;
       params = params_kept p b.0;
-      ops_limit = subst (λ (n : ℕ). n ≤ 2048) (sym (ops_count p.body (start (params_of p)) ∙ zero-add (length p.body))) top.ops;
+      ops_limit = subst (λ (n : ℕ). n ≤ 2048)
+          (sym (ops_count p.body (start (params_of p)) ∙ zero-add (length p.body))) top.ops;
       values_limit = subst (λ (ts : List Target). length ts ≤ 4096) kept.targets_kept few;
     }
 

@@ -7,5 +7,6 @@ use Rattle.word_program.specs.Accepted.{IsParam}
 use Rattle.word_program.proofs.OperandKept.{all_get}
 
 -- a parameter has at most 32 words
-pub few_words : (params : List Param) (n : ℕ) (p : Param) → AllByRecursion IsParam params → slice_get params n ≡ Some p → length p.bounds ≤ 32
+pub few_words : (params : List Param) (n : ℕ) (p : Param) → AllByRecursion IsParam params → slice_get params n ≡ Some p
+    → length p.bounds ≤ 32
 few_words params n p all e = (all_get IsParam params n p all e).words

@@ -12,5 +12,7 @@ use Rattle.word_program.specs.Walk.{walk, at, place_in}
 
 -- the word with this number is tried, and then those behind it
 pub missing_step : (ts : List Target) (param n i : ℕ) (bs : List Bounds) → i < length bs
-    → walk (missing_word ts param) (λ u b. u) tt n (drop i bs) ≡ option_or (at (place_in Returns param n) ((14, not (is_written ts param n)) ∷ [])) (walk (missing_word ts param) (λ u b. u) tt (n + 1) (drop (i + 1) bs))
+    → walk (missing_word ts param) (λ u b. u) tt n (drop i bs) ≡ option_or
+    (at (place_in Returns param n) ((14, not (is_written ts param n)) ∷ []))
+    (walk (missing_word ts param) (λ u b. u) tt (n + 1) (drop (i + 1) bs))
 missing_step ts param n i bs lt = let e : i + 1 ≡ suc i = omega arith in rw (e, drop-cons bs i full) refl

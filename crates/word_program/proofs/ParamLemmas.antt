@@ -11,10 +11,12 @@ range_step a e lt = let more : e - a ≡ suc (e - (a + 1)) = omega arith in rw m
 
 -- a word that has bounds is passed
 pub test_step : (f : ℕ → Option Bounds) (b : Bounds) (a e : ℕ) → a < e → f a ≡ Some b
-    → list_all (λ n. is_some (f n)) (range_with_len a (e - a)) ≡ list_all (λ n. is_some (f n)) (range_with_len (a + 1) (e - (a + 1)))
+    → list_all (λ n. is_some (f n)) (range_with_len a (e - a)) ≡ list_all (λ n. is_some (f n))
+    (range_with_len (a + 1) (e - (a + 1)))
 test_step f b a e lt found = rw (range_step a e lt, found) refl
 
 -- and its bounds come next
 pub bounds_step : (f : ℕ → Option Bounds) (b : Bounds) (bs : List Bounds) (a e : ℕ) → a < e → f a ≡ Some b
-    → bs ++ map (λ n. unwrap_or (f n) full) (range_with_len a (e - a)) ≡ (bs ++ b ∷ []) ++ map (λ n. unwrap_or (f n) full) (range_with_len (a + 1) (e - (a + 1)))
+    → bs ++ map (λ n. unwrap_or (f n) full) (range_with_len a (e - a)) ≡ (bs ++ b ∷ [])
+    ++ map (λ n. unwrap_or (f n) full) (range_with_len (a + 1) (e - (a + 1)))
 bounds_step f b bs a e lt found = rw (range_step a e lt, found) (sym (append_assoc bs (b ∷ []) _))

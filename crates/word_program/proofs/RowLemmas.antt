@@ -3,11 +3,12 @@ use Rattle.std.proofs.Common.{◌≡◌, ℕ, Bool, true, false, List, [], ◌�
 use Rattle.std.specs.Prelude.{Option, Some, None, is_none, option_and_then, option_map, ◌&&◌}
 use Rattle.std.specs.Option.{option_or}
 use Rattle.word_text.specs.declared.fault.Place.{Place}
-use Rattle.word_text.specs.Options.{holds}
+use Rattle.base.specs.Options.{guard}
 use Rattle.word_program.specs.Walk.{Row, Fault, first_code, at}
 
 -- where no rule of a table fails, the first does not, and none behind it does
-pub row_passes : (code : ℕ) (b : Bool) (rows : List Row) → first_code ((code, b) ∷ rows) ≡ None → (b ≡ false) × (first_code rows ≡ None)
+pub row_passes : (code : ℕ) (b : Bool) (rows : List Row) → first_code ((code, b) ∷ rows) ≡ None
+    → (b ≡ false) × (first_code rows ≡ None)
 row_passes code true rows none = absurd (cc)
 row_passes code false rows none = (refl, none)
 
@@ -39,17 +40,9 @@ pub some_of : {T : Type 0} (o : Option T) → is_none o ≡ false → (x : T) ×
 some_of None e = absurd (cc)
 some_of (Some x) e = (x, refl)
 
--- both steps gave a value
-pub bind_some : {A B : Type 0} (f : A → Option B) (o : Option A) (y : B) → option_and_then f o ≡ Some y → (x : A) × (o ≡ Some x) × (f x ≡ Some y)
-bind_some f None y e = absurd (cc)
-bind_some f (Some x) y e = (x, refl, e)
-
-pub holds_some : {A : Type 0} (b : Bool) (x y : A) → holds b x ≡ Some y → (b ≡ true) × (x ≡ y)
-holds_some true x y e = (refl, cc)
-holds_some false x y e = absurd (cc)
-
 -- where none of four rules fails, each of them passes
-pub rows4 : (a b c d : ℕ) (p q r s : Bool) → first_code ((a, p) ∷ (b, q) ∷ (c, r) ∷ (d, s) ∷ []) ≡ None → (p ≡ false) × (q ≡ false) × (r ≡ false) × (s ≡ false)
+pub rows4 : (a b c d : ℕ) (p q r s : Bool) → first_code ((a, p) ∷ (b, q) ∷ (c, r) ∷ (d, s) ∷ []) ≡ None
+    → (p ≡ false) × (q ≡ false) × (r ≡ false) × (s ≡ false)
 rows4 a b c d p q r s none =
     let r1 = row_passes a p ((b, q) ∷ (c, r) ∷ (d, s) ∷ []) none in
     let r2 = row_passes b q ((c, r) ∷ (d, s) ∷ []) r1.1 in

@@ -4,7 +4,8 @@ use Rattle.std.specs.Prelude.{Decides, ◌==◌}
 use Rattle.std.proofs.lemmas.Bool.Decides.{Decides-like, Decides-and, Decides-eqb}
 use Rattle.std.proofs.lemmas.Slice.Eq.{slice_eq-Decides, bytes_eq-Decides}
 use Rattle.word_operations.specs.declared.kind.Kind.{Kind}
-use Rattle.word_operations.specs.declared.kind.Kind.TheVariants.{AddCarry, SubBorrow, MulX, CMov, Add, Sub, Mul, And, Or, Xor, Not, Copy, Shl, Shr, Shrd}
+use Rattle.word_operations.specs.declared.kind.Kind.TheVariants.{AddCarry, SubBorrow, MulX, CMov, Add, Sub, Mul, And}
+use Rattle.word_operations.specs.declared.kind.Kind.TheVariants.{Or, Xor, Not, Copy, Shl, Shr, Shrd}
 use Rattle.word_operations.specs.contracts.kind.KindPartialEq.TheImpl as kind_impl
 use Rattle.word_program.specs.declared.parameter.Bounds.{Bounds}
 use Rattle.word_program.specs.declared.parameter.Param.{Param}
@@ -136,7 +137,8 @@ op_decides a b =
     (Decides-and _ _ (kind_decides a.kind b.kind) (Decides-and _ _ args writes))
 
 -- programs of the same name and the same parameters are equal where their operations are
-pub same_from : (r : Bool) (a b x y : Source) → a ≡ x → b ≡ y → a.name ≡ b.name → a.params ≡ b.params → Decides r (a.ops ≡ b.ops) → Decides r (x ≡ y)
+pub same_from : (r : Bool) (a b x y : Source) → a ≡ x → b ≡ y → a.name ≡ b.name → a.params ≡ b.params
+    → Decides r (a.ops ≡ b.ops) → Decides r (x ≡ y)
 same_from r a b x y p q name params d =
     Decides-like r
     (λ ops. sym p ∙ ((λ i. record { name = name i; params = params i; ops = ops i }) ∙ q))
@@ -144,7 +146,8 @@ same_from r a b x y p q name params d =
     d
 
 -- programs of which a part differs are not equal
-pub differ_from : {P : Type 0} (part : Source → P) (a b x y : Source) → a ≡ x → b ≡ y → ¬ (part a ≡ part b) → Decides false (x ≡ y)
+pub differ_from : {P : Type 0} (part : Source → P) (a b x y : Source) → a ≡ x → b ≡ y → ¬ (part a ≡ part b)
+    → Decides false (x ≡ y)
 differ_from part a b x y p q h = (λ e. absurd (cc), λ e. absurd (h (ap part (p ∙ (e ∙ sym q)))))
 
 -- what a test that is not passed, or passed, says of the test that it turns

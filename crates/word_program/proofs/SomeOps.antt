@@ -1,5 +1,6 @@
 -- That a program has an operation: it has a return, and each word of it is written.
-use Rattle.std.proofs.Common.{◌≡◌, ℕ, ◌-◌, ◌^◌, ◌≤◌, true, false, List, [], ◌∷◌, ◌++◌, length, refl, arith, sym, subst, ap, ◌∙◌}
+use Rattle.std.proofs.Common.{◌≡◌, ℕ, ◌-◌, ◌^◌, ◌≤◌, true, false, List, [], ◌∷◌, ◌++◌, length, refl, arith, sym, subst}
+use Rattle.std.proofs.Common.{ap, ◌∙◌}
 use Rattle.std.proofs.lemmas.Bool.Decides.{nat_tests}
 use Rattle.std.specs.Prelude.{Option, Some, None, ◌==◌, unwrap_or, option_map, count_by}
 use Rattle.std.specs.List.{AllByRecursion}
@@ -18,7 +19,8 @@ pub some_number : (n : ℕ) → (n == 0) ≡ false → 1 ≤ n
 some_number n e = grind (arith, nat_tests)
 
 -- what is read as an array of a return is an output
-output_role : (o : Option ℕ) → (unwrap_or (option_map (λ n. record { role = Output; words = n; most = 2 ^ 64 - 1 }) o) no_datatype).role ≡ Output
+output_role : (o : Option ℕ) → (unwrap_or
+    (option_map (λ n. record { role = Output; words = n; most = 2 ^ 64 - 1 }) o) no_datatype).role ≡ Output
 output_role None = refl
 output_role (Some n) = refl
 
@@ -35,7 +37,8 @@ first_stays section first rest (raw ∷ raws) = first_stays section first (rest 
 
 -- the first parameter of a program with a return is an output
 first_output : (returns arguments : List RawParam) → 1 ≤ length returns
-    → (p : Param) × (more : List Param) × (parameters_in Arguments (parameters_in Returns [] returns) arguments ≡ p ∷ more) × (is_output p.role ≡ true)
+    → (p : Param) × (more : List Param) × (parameters_in Arguments (parameters_in Returns [] returns) arguments ≡ p
+    ∷ more) × (is_output p.role ≡ true)
 first_output [] arguments some = absurd (omega arith)
 first_output (raw ∷ raws) arguments some =
     let a = first_stays Returns (param_of Returns raw) [] raws in
@@ -43,7 +46,8 @@ first_output (raw ∷ raws) arguments some =
     (param_of Returns raw, b.0, ap (λ ps. parameters_in Arguments ps arguments) a.1 ∙ b.1, return_role raw)
 
 -- so its first word is an output word
-first_word : (params : List Param) (p : Param) (more : List Param) → params ≡ p ∷ more → is_output p.role ≡ true → AllByRecursion IsParam params → IsOutputWord params 0 0
+first_word : (params : List Param) (p : Param) (more : List Param) → params ≡ p ∷ more → is_output p.role ≡ true
+    → AllByRecursion IsParam params → IsOutputWord params 0 0
 first_word params p more e role kept =
     let k : AllByRecursion IsParam (p ∷ more) = subst (AllByRecursion IsParam) e kept in
     subst (λ ps. IsOutputWord ps 0 0) (sym e) (role, k.0.some_words)
@@ -56,7 +60,8 @@ some_by (op ∷ ops) one = omega arith
 -- where each output word is written once, there is an operation
 pub some_ops : (returns arguments : List RawParam) (ops : List Op) → 1 ≤ length returns
     → AllByRecursion IsParam (parameters_in Arguments (parameters_in Returns [] returns) arguments)
-    → ((param word : ℕ) → IsOutputWord (parameters_in Arguments (parameters_in Returns [] returns) arguments) param word → count_by (is_at param word) (targets_of ops) ≡ 1)
+    → ((param word : ℕ) → IsOutputWord (parameters_in Arguments (parameters_in Returns [] returns) arguments) param
+    word → count_by (is_at param word) (targets_of ops) ≡ 1)
     → 1 ≤ length ops
 some_ops returns arguments ops some kept written =
     let f = first_output returns arguments some in

@@ -1,12 +1,14 @@
 -- What every program keeps.
-use Rattle.std.specs.Prelude.{count_by, ◌≡◌, ℕ, ◌-◌, ◌^◌, ◌<◌, ◌≤◌, Bool, true, List, [], ◌∷◌, ◌++◌, length, None, slice_get, slice_index_or, IsTrue, IsFalse, IsSomeAnd}
+use Rattle.std.specs.Prelude.{count_by, ◌≡◌, ℕ, ◌-◌, ◌^◌, ◌<◌, ◌≤◌, Bool, true, List, [], ◌∷◌, ◌++◌, length, None}
+use Rattle.std.specs.Prelude.{slice_get, slice_index_or, IsTrue, IsFalse, IsSomeAnd}
 use Rattle.std.specs.List.{AllByRecursion}
-use Rattle.word_text.specs.Texts.{is_identifier}
+use Rattle.base.specs.Identifiers.{is_identifier}
 use Rattle.word_program.specs.declared.parameter.Bounds.{Bounds}
 use Rattle.word_program.specs.declared.parameter.Param.{Param}
 use Rattle.word_program.specs.declared.operation.Op.{Op}
 use Rattle.word_operations.specs.declared.kind.Kind.{Kind}
-use Rattle.word_operations.specs.declared.kind.Kind.TheVariants.{AddCarry, SubBorrow, MulX, CMov, Add, Sub, Mul, And, Or, Xor, Not, Copy, Shl, Shr, Shrd}
+use Rattle.word_operations.specs.declared.kind.Kind.TheVariants.{AddCarry, SubBorrow, MulX, CMov, Add, Sub, Mul, And}
+use Rattle.word_operations.specs.declared.kind.Kind.TheVariants.{Or, Xor, Not, Copy, Shl, Shr, Shrd}
 use Rattle.word_program.specs.declared.operation.Operand.{Operand}
 use Rattle.word_program.specs.declared.operation.Operand.TheVariants as operands
 use Rattle.word_program.specs.declared.operation.Target.{Target}
@@ -36,39 +38,41 @@ pub record IsParam (p : Param) : Type 0 where
 -- a word, a word of an input parameter, or one of the values so far
 abbrev pub IsOperand : List Param → ℕ → Operand → Type 0
 IsOperand params values (operands.Literal n) = n < 2 ^ 64
-IsOperand params values (operands.Input param word) = IsSomeAnd (slice_get params param) (λ p. IsFalse (is_output p.role) × (word < length p.bounds))
+IsOperand params values (operands.Input param word) =
+    IsSomeAnd (slice_get params param) (λ p. IsFalse (is_output p.role) × (word < length p.bounds))
 IsOperand params values (operands.Value number) = number < values
 
 -- an output word is a word of an output parameter
 abbrev pub IsTarget : List Param → Target → Type 0
 IsTarget params targets.Value = Unit {0}
 IsTarget params targets.Unused = Unit {0}
-IsTarget params (targets.Output param word) = IsSomeAnd (slice_get params param) (λ p. IsTrue (is_output p.role) × (word < length p.bounds))
+IsTarget params (targets.Output param word) =
+    IsSomeAnd (slice_get params param) (λ p. IsTrue (is_output p.role) × (word < length p.bounds))
 
 -- a shift count is from 1 to 63
-abbrev pub HasCount : Kind → Type 0
-HasCount AddCarry = Unit {0}
-HasCount SubBorrow = Unit {0}
-HasCount MulX = Unit {0}
-HasCount CMov = Unit {0}
-HasCount Add = Unit {0}
-HasCount Sub = Unit {0}
-HasCount Mul = Unit {0}
-HasCount And = Unit {0}
-HasCount Or = Unit {0}
-HasCount Xor = Unit {0}
-HasCount Not = Unit {0}
-HasCount Copy = Unit {0}
-HasCount (Shl count) = (1 ≤ count) × (count ≤ 63)
-HasCount (Shr count) = (1 ≤ count) × (count ≤ 63)
-HasCount (Shrd count) = (1 ≤ count) × (count ≤ 63)
+abbrev pub HasShift : Kind → Type 0
+HasShift AddCarry = Unit {0}
+HasShift SubBorrow = Unit {0}
+HasShift MulX = Unit {0}
+HasShift CMov = Unit {0}
+HasShift Add = Unit {0}
+HasShift Sub = Unit {0}
+HasShift Mul = Unit {0}
+HasShift And = Unit {0}
+HasShift Or = Unit {0}
+HasShift Xor = Unit {0}
+HasShift Not = Unit {0}
+HasShift Copy = Unit {0}
+HasShift (Shl count) = (1 ≤ count) × (count ≤ 63)
+HasShift (Shr count) = (1 ≤ count) × (count ≤ 63)
+HasShift (Shrd count) = (1 ≤ count) × (count ≤ 63)
 
 -- An operation, where these of the values so far are bits: as many operands and targets as its kind has,
 -- all of them there, and a bit where its kind takes one.
 pub record IsOp (params : List Param) (bits : List Bool) (op : Op) : Type 0 where
   pub arguments : length op.args ≡ operand_count op.kind
   pub results : length op.targets ≡ result_count op.kind
-  pub count : HasCount op.kind
+  pub count : HasShift op.kind
   pub reads : AllByRecursion (IsOperand params (length bits)) op.args
   pub writes : AllByRecursion (IsTarget params) op.targets
   pub bit : takes_bit op.kind ≡ true → IsTrue (is_bit_by params bits (slice_index_or op.args 0 (operands.Literal 0)))
@@ -93,7 +97,8 @@ pub record IsAccepted (source : Source) : Type 0 where
   pub values_limit : length (targets_of source.ops) ≤ 4096
   pub ops : AreOps source.params [] source.ops
   -- each output word is written once
-  pub written : (param word : ℕ) → IsOutputWord source.params param word → count_by (is_at param word) (targets_of source.ops) ≡ 1
+  pub written : (param word : ℕ) → IsOutputWord source.params param word
+      → count_by (is_at param word) (targets_of source.ops) ≡ 1
 
 -- some parts that break no rule are this program; beside it are the target of each value, and which values
 -- are bits

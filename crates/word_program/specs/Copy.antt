@@ -1,7 +1,8 @@
 -- The programs that copy one word of an input array to an output array of one word, with no bounds.
-use Rattle.std.specs.Prelude.{◌≡◌, ℕ, ◌-◌, ◌^◌, ◌<◌, ◌≤◌, Bool, true, false, ◌&&◌, ◌==◌, nat_lt, nat_le, List, [], ◌∷◌, length, replicate, Option, None}
+use Rattle.std.specs.Prelude.{◌≡◌, ℕ, ◌-◌, ◌^◌, ◌<◌, ◌≤◌, Bool, true, false, ◌&&◌, ◌==◌, nat_lt, nat_le, List, [], ◌∷◌}
+use Rattle.std.specs.Prelude.{length, replicate, Option, None}
 use Rattle.std.specs.List.{list_all}
-use Rattle.word_text.specs.Options.{◌>>=◌, holds, only}
+use Rattle.base.specs.Options.{◌>>=◌, guard, only}
 use Rattle.word_program.specs.declared.parameter.Bounds.{Bounds}
 use Rattle.word_program.specs.declared.parameter.Param.{Param}
 use Rattle.word_program.specs.declared.parameter.Role.TheVariants.{Output, InputArray}
@@ -24,11 +25,16 @@ copy_params output input words =
 
 -- the one operation: a copy of a word of the input array to the word of the output array
 abbrev pub copy_ops : ℕ → List Op
-copy_ops index = record { kind = kinds.Copy; args = operands.Input 1 index ∷ []; targets = targets.Output 0 0 ∷ [] } ∷ []
+copy_ops index = record { kind = kinds.Copy; args = operands.Input 1 index ∷ []; targets = targets.Output 0 0 ∷ [] }
+    ∷ []
 
 -- the program `output[0] = input[index]`, with `words` words in the input array
 abbrev pub copy_of : List ℕ → List ℕ → List ℕ → ℕ → ℕ → Source
-copy_of name output input words index = record { name = name; params = copy_params output input words; ops = copy_ops index }
+copy_of name output input words index = record {
+  name = name;
+  params = copy_params output input words;
+  ops = copy_ops index;
+}
 
 -- the program is one of these
 pub record IsCopy (source : Source) : Type 0 where
@@ -49,7 +55,9 @@ abbrev pub copied_words : List Param → Option ℕ
 copied_words [] = None
 copied_words (output ∷ []) = None
 copied_words (output ∷ input ∷ []) =
-    holds (is_output output.role && (length output.bounds == 1 && (list_all is_full output.bounds && (is_input_array input.role && list_all is_full input.bounds)))) (length input.bounds)
+    guard (is_output output.role && (length output.bounds == 1
+    && (list_all is_full output.bounds && (is_input_array input.role && list_all is_full input.bounds))))
+    (length input.bounds)
 copied_words (output ∷ input ∷ p ∷ ps) = None
 
 abbrev pub is_copy_kind : Kind → Bool
@@ -58,7 +66,7 @@ is_copy_kind kind = false
 
 abbrev pub read_word : Operand → Option ℕ
 read_word (operands.Literal n) = None
-read_word (operands.Input param word) = holds (param == 1) word
+read_word (operands.Input param word) = guard (param == 1) word
 read_word (operands.Value number) = None
 
 abbrev pub writes_first : Target → Bool
@@ -73,11 +81,11 @@ copied_index ops = do
   argument ← only op.args
   target ← only op.targets
   index ← read_word argument
-  holds (is_copy_kind op.kind && writes_first target) index
+  guard (is_copy_kind op.kind && writes_first target) index
 
 -- how many words the input array of a copy has, and which one is copied
 unfoldable pub copy_form : Source → Option (ℕ × ℕ)
 copy_form source = do
   words ← copied_words source.params
   index ← copied_index source.ops
-  holds (nat_lt index words && nat_le words 32) (words, index)
+  guard (nat_lt index words && nat_le words 32) (words, index)

@@ -1,7 +1,9 @@
 -- What a program must be, as tables of rules. The rules are tried in this order: those of the program as a
 -- whole, of each return, of each argument, of each operation, and last that every output word is written.
 -- A later row of a table may read a default where an earlier row fails.
-use Rattle.std.specs.Prelude.{ℕ, ◌+◌, ◌-◌, ◌^◌, Bool, true, false, not, ◌&&◌, ◌||◌, ◌==◌, nat_lt, nat_le, List, [], ◌∷◌, ◌++◌, length, map, take, fold, codes, Option, Some, None, is_some, is_none, unwrap_or, option_map, option_and_then, slice_get, if◌then◌else◌}
+use Rattle.std.specs.Prelude.{ℕ, ◌+◌, ◌-◌, ◌^◌, Bool, true, false, not, ◌&&◌, ◌||◌, ◌==◌, nat_lt, nat_le, List, [], ◌∷◌}
+use Rattle.std.specs.Prelude.{◌++◌, length, map, take, fold, codes, Option, Some, None, is_some, is_none, unwrap_or}
+use Rattle.std.specs.Prelude.{option_map, option_and_then, slice_get, if◌then◌else◌}
 use Rattle.std.specs.List.{position_from, list_all, list_any, range_with_len}
 use Rattle.std.specs.Option.{option_or, option_map_or}
 use Rattle.std.specs.Str.{bytes_eq}
@@ -10,9 +12,11 @@ use Rattle.word_text.specs.declared.fault.Section.TheVariants.{Top, Returns, Arg
 use Rattle.word_text.specs.declared.parts.RawOp.{RawOp}
 use Rattle.word_text.specs.declared.parts.RawParam.{RawParam}
 use Rattle.word_text.specs.declared.parts.RawProgram.{RawProgram}
-use Rattle.word_text.specs.Options.{◌>>=◌, holds}
-use Rattle.word_text.specs.Texts.{is_identifier, is_unused, is_word_form, starts_with_digit, word_parts}
-use Rattle.word_text.specs.Numbers.{word, index_below, array_words}
+use Rattle.base.specs.Options.{◌>>=◌, guard}
+use Rattle.base.specs.Identifiers.{is_identifier}
+use Rattle.word_text.specs.Texts.{is_unused, is_word_form, starts_with_digit, word_parts}
+use Rattle.base.specs.Numbers.{word}
+use Rattle.word_text.specs.Numbers.{index_below, array_words}
 use Rattle.word_program.specs.declared.parameter.Bounds.{Bounds}
 use Rattle.word_program.specs.declared.parameter.Param.{Param}
 use Rattle.word_program.specs.declared.parameter.Role.{Role}
@@ -27,7 +31,8 @@ use Rattle.word_program.specs.declared.operation.Target.TheVariants as targets
 use Rattle.word_program.specs.declared.params.Datatype.{Datatype}
 use Rattle.word_program.specs.declared.params.ParamWord.{ParamWord}
 use Rattle.word_program.specs.Program.{Source, full}
-use Rattle.word_operations.specs.Operations.{kind_named, operand_count, argument_count, result_count, needs_bit, needs_count, with_count}
+use Rattle.word_operations.specs.Operations.{kind_named, operand_count, argument_count, result_count, needs_bit}
+use Rattle.word_operations.specs.Operations.{needs_shift, with_shift}
 use Rattle.word_program.specs.Values.{is_output, is_input_array, is_scalar, is_bit_by, op_bits, is_at}
 use Rattle.word_program.specs.Walk.{Row, Fault, place_in, at, walk}
 
@@ -52,7 +57,8 @@ scalar_of most = record { role = InputScalar; words = 1; most = most }
 -- `u64`, or `u1`
 abbrev pub scalar_named : List ℕ → Option Datatype
 scalar_named text =
-    if bytes_eq text (codes "u64") then Some (scalar_of (2 ^ 64 - 1)) else (if bytes_eq text (codes "u1") then Some (scalar_of 1) else None)
+    if bytes_eq text (codes "u64") then Some (scalar_of (2 ^ 64 - 1)) else
+    (if bytes_eq text (codes "u1") then Some (scalar_of 1) else None)
 
 -- `u64[n]` with n from 1 to 32 for a return; that, `u64` or `u1` for an argument
 abbrev pub datatype_of : Section → List ℕ → Option Datatype
@@ -72,7 +78,7 @@ unfoldable pub bound_at : Datatype → RawParam → ℕ → Option Bounds
 bound_at datatype param number = do
   low ← limit_at 0 param.low number
   high ← limit_at datatype.most param.high number
-  holds (nat_le low high && nat_le high datatype.most) (record { low = low; high = high })
+  guard (nat_le low high && nat_le high datatype.most) (record { low = low; high = high })
 
 -- as many texts as words, where they are given
 abbrev pub has_length : ℕ → Option (List (List ℕ)) → Bool
@@ -82,8 +88,10 @@ has_length words (Some texts) = length texts == words
 -- the bounds of a parameter of this datatype
 unfoldable pub bounds_of : Datatype → RawParam → Option (List Bounds)
 bounds_of datatype param =
-    holds
-    (has_length datatype.words param.low && (has_length datatype.words param.high && list_all (λ n. is_some (bound_at datatype param n)) (range_with_len 0 datatype.words)))
+    guard
+    (has_length datatype.words param.low &&
+    (has_length datatype.words param.high && list_all (λ n. is_some (bound_at datatype param n))
+    (range_with_len 0 datatype.words)))
     (map (λ n. unwrap_or (bound_at datatype param n) full) (range_with_len 0 datatype.words))
 
 abbrev pub no_datatype : Datatype
@@ -94,15 +102,15 @@ abbrev pub bounds_said : Section → RawParam → Option (List Bounds)
 bounds_said section param = bounds_of (unwrap_or (datatype_of section param.datatype) no_datatype) param
 
 -- the number of the parameter of this name
-abbrev pub numbered : List Param → List ℕ → Option ℕ
-numbered params name = position_from (λ p. bytes_eq p.name name) 0 params
+abbrev pub param_named : List Param → List ℕ → Option ℕ
+param_named params name = position_from (λ p. bytes_eq p.name name) 0 params
 
 unfoldable pub parameter_rules : Section → List Param → RawParam → List Row
 parameter_rules section params param =
     (2, not (is_identifier param.name))
     ∷ (3, is_none (datatype_of section param.datatype))
     ∷ (4, is_none (bounds_said section param))
-    ∷ (10, is_some (numbered params param.name))
+    ∷ (10, is_some (param_named params param.name))
     ∷ []
 
 unfoldable pub param_of : Section → RawParam → Param
@@ -146,14 +154,14 @@ abbrev pub start : List Param → Scope
 start params = record { params = params; names = []; targets = []; bits = []; ops = [] }
 
 -- the value number of the result of this name
-abbrev pub known : List (List ℕ) → List ℕ → Option ℕ
-known names name = if is_identifier name then position_from (λ n. bytes_eq n name) 0 names else None
+abbrev pub value_named : List (List ℕ) → List ℕ → Option ℕ
+value_named names name = if is_identifier name then position_from (λ n. bytes_eq n name) 0 names else None
 
 -- the word `name[index]` of a parameter, and the parameter's role
 unfoldable pub word_at : List Param → List ℕ → Option ParamWord
 word_at params text = do
   parts ← word_parts text
-  param ← numbered params parts.0
+  param ← param_named params parts.0
   p ← slice_get params param
   number ← index_below parts.1 (length p.bounds)
   Some (record { role = p.role; param = param; word = number })
@@ -161,19 +169,19 @@ word_at params text = do
 -- the scalar of this name
 unfoldable pub scalar_at : List Param → List ℕ → Option Operand
 scalar_at params name = do
-  param ← numbered params name
+  param ← param_named params name
   p ← slice_get params param
-  holds (is_scalar p.role) (operands.Input param 0)
+  guard (is_scalar p.role) (operands.Input param 0)
 
 -- a scalar argument, or an earlier result
 abbrev pub named_operand : Scope → List ℕ → Option Operand
-named_operand s name = option_or (scalar_at s.params name) (option_map operands.Value (known s.names name))
+named_operand s name = option_or (scalar_at s.params name) (option_map operands.Value (value_named s.names name))
 
 -- a word of an input array
 unfoldable pub array_operand : List Param → List ℕ → Option Operand
 array_operand params text = do
   w ← word_at params text
-  holds (is_input_array w.role) (operands.Input w.param w.word)
+  guard (is_input_array w.role) (operands.Input w.param w.word)
 
 -- the operand that a text is
 unfoldable pub operand_of : Scope → List ℕ → Option Operand
@@ -185,24 +193,24 @@ abbrev pub operand_or : Option Operand → Operand
 operand_or o = unwrap_or o (operands.Literal 0)
 
 -- a shift count, a literal from 1 to 63
-abbrev pub is_count : Operand → Bool
-is_count (operands.Literal n) = nat_le 1 n && nat_le n 63
-is_count (operands.Input param word) = false
-is_count (operands.Value number) = false
+abbrev pub is_shift : Operand → Bool
+is_shift (operands.Literal n) = nat_le 1 n && nat_le n 63
+is_shift (operands.Input param word) = false
+is_shift (operands.Value number) = false
 
 -- the shift count that an operand is
-abbrev pub count_or : Option Operand → ℕ
-count_or None = 0
-count_or (Some (operands.Literal n)) = n
-count_or (Some (operands.Input param number)) = 0
-count_or (Some (operands.Value number)) = 0
+abbrev pub shift_or : Option Operand → ℕ
+shift_or None = 0
+shift_or (Some (operands.Literal n)) = n
+shift_or (Some (operands.Input param number)) = 0
+shift_or (Some (operands.Value number)) = 0
 
 -- the rules of the argument at a place of an operation of this kind
 unfoldable pub argument_rules : Scope → Kind → ℕ → List ℕ → List Row
 argument_rules s kind place text =
     (9, not (starts_with_digit text) && is_none (operand_of s text))
     ∷ (11, starts_with_digit text && is_none (operand_of s text))
-    ∷ (12, needs_count kind place && not (is_count (operand_or (operand_of s text))))
+    ∷ (12, needs_shift kind place && not (is_shift (operand_or (operand_of s text))))
     ∷ (13, needs_bit kind place && not (is_bit_by s.params s.bits (operand_or (operand_of s text))))
     ∷ []
 
@@ -214,13 +222,13 @@ is_written ts param number = list_any (is_at param number) ts
 unfoldable pub output_at : List Param → List ℕ → Option ParamWord
 output_at params text = do
   w ← word_at params text
-  holds (is_output w.role) w
+  guard (is_output w.role) w
 
 -- the rules of a result
 unfoldable pub result_rules : Scope → List ℕ → List Row
 result_rules s text =
     (2, not (is_identifier text || (is_unused text || is_word_form text)))
-    ∷ (10, is_identifier text && (is_some (numbered s.params text) || is_some (known s.names text)))
+    ∷ (10, is_identifier text && (is_some (param_named s.params text) || is_some (value_named s.names text)))
     ∷ (14, is_word_form text && option_map_or (λ w. is_written s.targets w.param w.word) (output_at s.params text) true)
     ∷ []
 
@@ -237,13 +245,13 @@ abbrev pub kind_or : Option Kind → Kind
 kind_or o = unwrap_or o Copy
 
 -- as many arguments and results as the kind has
-abbrev pub has_counts : Kind → RawOp → Bool
-has_counts kind o = length o.arguments == argument_count kind && length o.results == result_count kind
+abbrev pub has_arity : Kind → RawOp → Bool
+has_arity kind o = length o.arguments == argument_count kind && length o.results == result_count kind
 
 unfoldable pub shape_rules : RawOp → List Row
 shape_rules o =
     (7, is_none (kind_named o.operation))
-    ∷ (8, not (has_counts (kind_or (kind_named o.operation)) o))
+    ∷ (8, not (has_arity (kind_or (kind_named o.operation)) o))
     ∷ []
 
 -- the faults of the argument and of the result with this number, of the operation with the number i
@@ -255,7 +263,13 @@ result_fault i arguments s n text = at (place_in Body i (1 + arguments + n)) (re
 
 -- the scope after a result of an operation
 abbrev pub with_result : Scope → List ℕ → Scope
-with_result s text = record { params = s.params; names = s.names ++ text ∷ []; targets = s.targets ++ target_of s.params text ∷ []; bits = s.bits; ops = s.ops }
+with_result s text = record {
+  params = s.params;
+  names = s.names ++ text ∷ [];
+  targets = s.targets ++ target_of s.params text ∷ [];
+  bits = s.bits;
+  ops = s.ops;
+}
 
 -- all rules of the first argument come before those of the second, and so on, and then those of the results
 unfoldable pub operation_fault : Scope → ℕ → RawOp → Option Fault
@@ -267,17 +281,24 @@ operation_fault s i o =
 -- an operation on these operands, of which the one after the last is a shift count
 abbrev pub op_on : Kind → List Operand → List Target → Op
 op_on kind arguments ts = record {
-  kind = with_count kind (count_or (slice_get arguments (operand_count kind)));
+  kind = with_shift kind (shift_or (slice_get arguments (operand_count kind)));
   args = take (operand_count kind) arguments;
   targets = ts;
 }
 
 unfoldable pub op_of : Scope → RawOp → Op
-op_of s o = op_on (kind_or (kind_named o.operation)) (map (λ text. operand_or (operand_of s text)) o.arguments) (map (target_of s.params) o.results)
+op_of s o = op_on (kind_or (kind_named o.operation)) (map (λ text. operand_or (operand_of s text)) o.arguments)
+    (map (target_of s.params) o.results)
 
 -- the scope with an operation, of which the results are there
 abbrev pub with_op : Scope → Op → Scope
-with_op s op = record { params = s.params; names = s.names; targets = s.targets; bits = s.bits ++ op_bits s.params s.bits op; ops = s.ops ++ op ∷ [] }
+with_op s op = record {
+  params = s.params;
+  names = s.names;
+  targets = s.targets;
+  bits = s.bits ++ op_bits s.params s.bits op;
+  ops = s.ops ++ op ∷ [];
+}
 
 -- the scope after an operation
 unfoldable pub with_operation : Scope → RawOp → Scope
@@ -304,11 +325,13 @@ missing params ts = walk (missing_in ts) (λ u p. u) tt 0 params
 -- the faults of the operations, and of what they leave unwritten
 abbrev pub body_fault : List Param → List RawOp → Option Fault
 body_fault params body =
-    option_or (walk operation_fault with_operation (start params) 0 body) (missing params (scope_after params body).targets)
+    option_or (walk operation_fault with_operation (start params) 0 body)
+    (missing params (scope_after params body).targets)
 
 -- The first rule that the parts break. Where there is none, they are a program.
 unfoldable pub first_fault : RawProgram → Option Fault
-first_fault p = option_or (at (place_in Top 0 0) (top_rules p)) (option_or (params_fault p) (body_fault (params_of p) p.body))
+first_fault p = option_or (at (place_in Top 0 0) (top_rules p))
+    (option_or (params_fault p) (body_fault (params_of p) p.body))
 
 -- the program that the parts are, where they break no rule
 unfoldable pub program_of : RawProgram → Source

@@ -1,6 +1,7 @@
 -- What a program computes: the list of its values in program order, by the equations of its operations,
 -- and which of the values are bits. The input words stand in one list, in the order of the parameters.
-use Rattle.std.specs.Prelude.{ℕ, ◌+◌, ◌≤◌, Bool, true, false, ◌&&◌, ◌==◌, nat_le, List, [], ◌∷◌, ◌++◌, length, map, take, fold, sum_by, position, slice_get, slice_index, slice_index_or, if◌then◌else◌}
+use Rattle.std.specs.Prelude.{ℕ, ◌+◌, ◌≤◌, Bool, true, false, ◌&&◌, ◌==◌, nat_le, List, [], ◌∷◌, ◌++◌, length, map}
+use Rattle.std.specs.Prelude.{take, fold, sum_by, position, slice_get, slice_index, slice_index_or, if◌then◌else◌}
 use Rattle.std.specs.List.{flat_map, range_with_len}
 use Rattle.std.specs.Option.{option_map_or}
 use Rattle.word_program.specs.declared.parameter.Bounds.{Bounds}
@@ -117,7 +118,8 @@ is_bit source operand = is_bit_by source.params (bits_of source.params source.op
 abbrev pub outputs_from : List Target → List ℕ → ℕ → List Param → List ℕ
 outputs_from ts values param [] = []
 outputs_from ts values param (p ∷ ps) =
-    (if is_output p.role then map (stored_word ts values param) (range_with_len 0 (length p.bounds)) else []) ++ outputs_from ts values (param + 1) ps
+    (if is_output p.role then map (stored_word ts values param) (range_with_len 0 (length p.bounds)) else [])
+    ++ outputs_from ts values (param + 1) ps
 
 -- the output words, in the order of the parameters
 abbrev pub outputs : Source → List ℕ → List ℕ

@@ -1,5 +1,6 @@
 -- How faults are found: a table has a row for each rule, and a walk tries the items of a list in order.
-use Rattle.std.specs.Prelude.{◌≡◌, ℕ, ◌+◌, Bool, List, [], ◌∷◌, Option, Some, None, Result, Ok, Err, option_map, if◌then◌else◌}
+use Rattle.std.specs.Prelude.{◌≡◌, ℕ, ◌+◌, Bool, List, [], ◌∷◌, Option, Some, None, Result, Ok, Err, option_map}
+use Rattle.std.specs.Prelude.{if◌then◌else◌}
 use Rattle.std.specs.Option.{option_or}
 use Rattle.word_text.specs.declared.fault.Place.{Place}
 use Rattle.word_text.specs.declared.fault.Section.{Section}

@@ -19,7 +19,8 @@ fn arg_bit(params: &[Param], bits: &[bool], args: &[Operand], place: usize) -> b
 
 /// Puts behind the bits of the values so far whether the results of an operation are bits.
 pub fn push_bits(bits: &mut Vec<bool>, params: &[Param], op: &Op) -> Result<(), AllocError>
-    ensures { OnOk result (bits.new.items ≡ bits.old.items ++ values.op_bits params.entry.now bits.old.items op.entry.now) }
+    ensures { OnOk result (bits.new.items ≡ bits.old.items
+        ++ values.op_bits params.entry.now bits.old.items op.entry.now) }
 {
     let a = arg_bit(params, bits.as_slice(), op.args.items(), 0);
     let b = arg_bit(params, bits.as_slice(), op.args.items(), 1);

@@ -1,4 +1,5 @@
-ghost use Rattle.std.specs.Prelude.{◌≡◌, ◌++◌, ◌+◌, ◌≤◌, ◌<◌, [], ◌∷◌, ℕ, length, map, fold, slice_get, IfOk, IfSome, IsTrue, OnOk};
+ghost use Rattle.std.specs.Prelude.{◌≡◌, ◌++◌, ◌+◌, ◌≤◌, ◌<◌, [], ◌∷◌, ℕ, length, map, fold, slice_get, IfOk, IfSome};
+ghost use Rattle.std.specs.Prelude.{IsTrue, OnOk};
 ghost use Rattle.std.specs.List.{AllByRecursion};
 ghost use Rattle.word_program.specs.Accepted.{IsParam};
 ghost use Rattle.word_program.specs.Rules as spec;
@@ -10,7 +11,7 @@ use crate::parameter::Param;
 use crate::params::{memory, rule};
 use crate::reader::Reader;
 use std::alloc::Global;
-use word_operations::{Kind, argument_count, kind_named, with_count};
+use word_operations::{Kind, argument_count, kind_named, with_shift};
 use word_text::{Items, ProgramFault, RawOp, Section, Text};
 
 /// The kind of an operation, which has as many arguments and results as the kind has.
@@ -43,8 +44,10 @@ fn arguments(
     texts: &[Text],
 ) -> Result<Vec<Operand>, ProgramFault>
     requires { length texts.now ≤ 3 }
-    ensures fault { Meets result (walk (spec.argument_fault reader.entry.now item kind) (λ u text. u) tt 0 texts.entry.now) }
-    ensures value { IfOk result (λ operands. operands.items ≡ map (λ text. spec.operand_or (spec.operand_of reader.entry.now text)) texts.entry.now) }
+    ensures fault { Meets result (walk (spec.argument_fault reader.entry.now item kind)
+        (λ u text. u) tt 0 texts.entry.now) }
+    ensures value { IfOk result (λ operands. operands.items ≡ map
+        (λ text. spec.operand_or (spec.operand_of reader.entry.now text)) texts.entry.now) }
 {
     let mut operands = Vec::new(alloc);
     let mut place = 0;
@@ -90,9 +93,9 @@ fn results<'a>(
 }
 
 /// The shift count that an operand is.
-fn count_or(operand: Option<Operand>) -> u8
-    requires { IfSome operand (λ o. IsTrue (spec.is_count o)) }
-    ensures { result ≡ spec.count_or operand }
+fn shift_or(operand: Option<Operand>) -> u8
+    requires { IfSome operand (λ o. IsTrue (spec.is_shift o)) }
+    ensures { result ≡ spec.shift_or operand }
 {
     match operand {
         Some(Operand::Literal(number)) => number as u8,
@@ -102,15 +105,15 @@ fn count_or(operand: Option<Operand>) -> u8
 
 /// The operation on these operands, of which the one after the last is a shift count.
 fn op_on(kind: Kind, operands: Vec<Operand>, targets: TargetList) -> Op
-    requires { IfSome (slice_get operands.items (table.operand_count kind)) (λ o. IsTrue (spec.is_count o)) }
+    requires { IfSome (slice_get operands.items (table.operand_count kind)) (λ o. IsTrue (spec.is_shift o)) }
     ensures { result ≡ spec.op_on kind operands.items targets }
 {
     let mut operands = operands;
     let operand_count = kind.operand_count();
-    let count = count_or(operands.as_slice().get(operand_count).copied());
+    let count = shift_or(operands.as_slice().get(operand_count).copied());
     operands.truncate(operand_count);
     Op {
-        kind: with_count(kind, count),
+        kind: with_shift(kind, count),
         args: Items::from_vec(operands),
         targets,
     }
@@ -149,7 +152,8 @@ pub fn read_body<'a>(
     requires few { length params.now ≤ 6 }
     requires params { AllByRecursion IsParam params.now }
     requires short { length body.now ≤ 2048 }
-    ensures fault { Meets result (walk spec.operation_fault spec.with_operation (spec.start params.entry.now) 0 body.entry.now) }
+    ensures fault { Meets result (walk spec.operation_fault spec.with_operation
+        (spec.start params.entry.now) 0 body.entry.now) }
     ensures value { IfOk result (λ reader. reader ≡ spec.scope_after params.entry.now body.entry.now) }
 {
     let mut reader = Reader::new(alloc, params);

@@ -1,4 +1,5 @@
-ghost use Rattle.std.specs.Prelude.{◌≡◌, ◌≤◌, ◌<◌, ◌+◌, ◌++◌, [], ℕ, length, map, position, slice_index, IfOk, IfErr, OnOk};
+ghost use Rattle.std.specs.Prelude.{◌≡◌, ◌≤◌, ◌<◌, ◌+◌, ◌++◌, [], ℕ, length, map, position, slice_index, IfOk, IfErr};
+ghost use Rattle.std.specs.Prelude.{OnOk};
 ghost use Rattle.std.specs.List.{AllByRecursion, range_with_len};
 ghost use Rattle.word_program.specs.Accepted.{IsParam};
 ghost use Rattle.word_program.specs.Evaluates.{Refuses};
@@ -72,7 +73,8 @@ fn push_op(
 ) -> Result<(), AllocError>
     requires few { length params.now ≤ 6 }
     requires params { AllByRecursion IsParam params.now }
-    ensures { OnOk result (so_far.new.items ≡ so_far.old.items ++ values.op_words params.entry.now inputs.entry.now so_far.old.items op.entry.now) }
+    ensures { OnOk result (so_far.new.items ≡ so_far.old.items
+        ++ values.op_words params.entry.now inputs.entry.now so_far.old.items op.entry.now) }
 {
     let a = arg_word(params, inputs, so_far.as_slice(), op.args.items(), 0);
     let b = arg_word(params, inputs, so_far.as_slice(), op.args.items(), 1);
@@ -125,7 +127,8 @@ fn push_words(
     param: usize,
     count: usize,
 ) -> Result<(), AllocError>
-    ensures { OnOk result (words.new.items ≡ words.old.items ++ map (values.stored_word targets.entry.now so_far.entry.now param) (range_with_len 0 count)) }
+    ensures { OnOk result (words.new.items ≡ words.old.items
+        ++ map (values.stored_word targets.entry.now so_far.entry.now param) (range_with_len 0 count)) }
 {
     for word in 0..count {
         words.push(stored_word(targets, so_far, param, word))?;
@@ -140,7 +143,8 @@ fn outputs(
     targets: &[Target],
     so_far: &[u64],
 ) -> Result<Vec<u64>, AllocError>
-    ensures { IfOk result (λ words. words.items ≡ values.outputs_from targets.entry.now so_far.entry.now 0 params.entry.now) }
+    ensures { IfOk result (λ words. words.items
+        ≡ values.outputs_from targets.entry.now so_far.entry.now 0 params.entry.now) }
 {
     let mut words = Vec::new(alloc);
     let mut number = 0;

@@ -6,7 +6,7 @@ ghost use Rattle.word_program.specs.Values as values;
 
 use crate::operation::{Operand, Target};
 use crate::parameter::{Bounds, Param, Role};
-use crate::params::{ParamWord, numbered, word_at};
+use crate::params::{ParamWord, param_named, word_at};
 
 /// Whether words of this role are written.
 pub fn is_output(role: Role) -> bool
@@ -43,7 +43,7 @@ pub fn scalar_at(params: &[Param], name: &str) -> Option<Operand>
     requires { length params.now ≤ 6 }
     ensures { result ≡ spec.scalar_at params.now name.now }
 {
-    let number = numbered(params, name)?;
+    let number = param_named(params, name)?;
     let param = params.get(number as usize)?;
     if is_scalar(param.role) {
         Some(Operand::Input {
@@ -106,8 +106,8 @@ pub fn is_written(targets: &[Target], param: usize, word: usize) -> bool
 }
 
 /// Whether the operand is a shift count, a literal from 1 to 63.
-pub fn is_count(operand: Operand) -> bool
-    ensures { result ≡ spec.is_count operand }
+pub fn is_shift(operand: Operand) -> bool
+    ensures { result ≡ spec.is_shift operand }
 {
     match operand {
         Operand::Literal(number) => 1 <= number && number <= 63,

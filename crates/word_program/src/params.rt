@@ -6,10 +6,10 @@ ghost use Rattle.word_program.specs.Rules as spec;
 ghost use Rattle.word_program.specs.Walk.{Meets, walk, place_in};
 
 use crate::parameter::{Bounds, BoundsList, Param, Role};
+use base::{Items, Text, is_identifier, word};
 use std::alloc::{AllocError, Global};
 use word_text::{
-    Items, Place, ProgramFault, RawParam, Section, Text, Texts, array_words, index_below,
-    is_identifier, word, word_parts,
+    Place, ProgramFault, RawParam, Section, Texts, array_words, index_below, word_parts,
 };
 
 /// What a datatype says: the role, how many words, at most 32, and the greatest value of a word.
@@ -99,7 +99,7 @@ fn limit_at(missing: u64, texts: Option<&Texts>, number: usize) -> Option<u64>
 {
     match texts {
         None => Some(missing),
-        Some(texts) => word(texts.items().get(number)?.as_str()),
+        Some(texts) => word(texts.items().get(number)?.as_str().as_bytes()),
     }
 }
 
@@ -152,9 +152,9 @@ fn bounds_of(
 }
 
 /// The number of the parameter of this name.
-pub fn numbered(params: &[Param], name: &str) -> Option<u8>
+pub fn param_named(params: &[Param], name: &str) -> Option<u8>
     requires { length params.now ≤ 6 }
-    ensures value { result ≡ spec.numbered params.now name.now }
+    ensures value { result ≡ spec.param_named params.now name.now }
     ensures within { IfSome result (λ n. n < length params.now) }
 {
     let mut number = 0;
@@ -175,7 +175,7 @@ pub fn word_at(params: &[Param], text: &str) -> Option<ParamWord>
     ensures { result ≡ spec.word_at params.now text.now }
 {
     let (name, index) = word_parts(text)?;
-    let number = numbered(params, name)?;
+    let number = param_named(params, name)?;
     let param = params.get(number as usize)?;
     let word = index_below(index, param.bounds.items().len())?;
     Some(ParamWord {
@@ -198,7 +198,7 @@ fn parameter(
     ensures fault { Meets result (spec.parameter_fault section params.entry.now item raw.entry.now) }
     ensures value { IfOk result (λ param. param ≡ spec.param_of section raw.entry.now) }
 {
-    if !is_identifier(raw.name.as_str()) {
+    if !is_identifier(raw.name.as_str().as_bytes()) {
         return Err(rule(2, section, item, 0));
     }
     let Some(datatype) = datatype_of(section, raw.datatype.as_str()) else {
@@ -207,7 +207,7 @@ fn parameter(
     let Some(bounds) = bounds_of(alloc, datatype, raw).map_err(memory)? else {
         return Err(rule(4, section, item, 0));
     };
-    if numbered(params, raw.name.as_str()).is_some() {
+    if param_named(params, raw.name.as_str()).is_some() {
         return Err(rule(10, section, item, 0));
     }
     let name = Text::from_str(alloc, raw.name.as_str()).map_err(memory)?;
@@ -226,7 +226,8 @@ pub fn parameters(
     raws: &[RawParam],
 ) -> Result<(), ProgramFault>
     requires { length params.old + length raws.now ≤ 6 }
-    ensures fault { Meets result (walk (spec.parameter_fault section) (spec.with_param section) params.old 0 raws.entry.now) }
+    ensures fault { Meets result (walk (spec.parameter_fault section)
+        (spec.with_param section) params.old 0 raws.entry.now) }
     ensures state { OnOk result (params.new ≡ spec.parameters_in section params.old raws.entry.now) }
     ensures count { OnOk result (length params.new ≡ length params.old + length raws.entry.now) }
 {

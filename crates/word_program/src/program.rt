@@ -11,9 +11,10 @@ use crate::missing::missing;
 use crate::operation::{Op, Operand, Target};
 use crate::parameter::Param;
 use crate::params::{memory, parameters, rule};
+use base::{Items, Text, is_identifier};
 use std::alloc::Global;
 use std::marker::Model;
-use word_text::{Items, ProgramFault, RawProgram, Section, Text, is_identifier};
+use word_text::{ProgramFault, RawProgram, Section};
 
 /// A program that the rules accept. Contracts see it as a `Source`: its name, its parameters, the
 /// returns before the arguments, and its operations in order.
@@ -35,7 +36,8 @@ impl Model for Program {
 
     ghost use Rattle.word_program.specs.Accepted.{IsKept};
 
-    ghost invariant = { λ p. IsKept (record { name = p.name; params = p.params; ops = p.ops }) p.targets.items p.bits.items };
+    ghost invariant = { λ p. IsKept (record { name = p.name; params = p.params; ops = p.ops }) p.targets.items
+        p.bits.items };
 }
 
 /// The rules of the program as a whole.
@@ -45,7 +47,7 @@ fn top(parts: &RawProgram) -> Result<(), ProgramFault>
     ensures few { OnOk result (length parts.now.returns + length parts.now.arguments ≤ 6) }
     ensures short { OnOk result (length parts.now.body ≤ 2048) }
 {
-    if !is_identifier(parts.name.as_str()) {
+    if !is_identifier(parts.name.as_str().as_bytes()) {
         return Err(rule(2, Section::Top, 0, 0));
     }
     if 6 < parts.returns.items().len() + parts.arguments.items().len() {

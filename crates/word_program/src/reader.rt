@@ -7,13 +7,14 @@ ghost use Rattle.word_program.specs.Walk.{Meets, MeetsCode, walk, first_code, at
 
 use crate::operation::{Op, Operand, Target};
 use crate::parameter::Param;
-use crate::params::numbered;
+use crate::params::param_named;
 use crate::{bits, lookup};
+use base::{Items, is_identifier, word};
 use std::alloc::{AllocError, Global};
 use std::collections::BTreeMap;
 use std::marker::Model;
-use word_operations::{Kind, needs_bit, needs_count};
-use word_text::{Items, is_identifier, is_unused, is_word_form, starts_with_digit, word};
+use word_operations::{Kind, needs_bit, needs_shift};
+use word_text::{is_unused, is_word_form, starts_with_digit};
 
 /// What stands before an operation: the parameters, the results so far and the operations so far. The
 /// index finds a result by its name.
@@ -42,13 +43,21 @@ impl<'a> Model for Reader<'a> {
     ghost use Rattle.std.specs.Cmp.Lexicographic.{slice_cmp};
     ghost use Rattle.std.specs.List.{AllByRecursion};
     ghost use Rattle.word_program.specs.Accepted.{IsParam};
-    ghost use Rattle.word_program.specs.Rules.{Scope, known};
+    ghost use Rattle.word_program.specs.Rules.{Scope, value_named};
 
     ghost Value = { Scope };
 
-    ghost view = { λ s. record { params = s.params.now; names = map (λ n. n.now) s.names.items; targets = s.targets.items; bits = s.bits.items; ops = s.ops } };
+    ghost view = { λ s. record {
+      params = s.params.now;
+      names = map (λ n. n.now) s.names.items;
+      targets = s.targets.items;
+      bits = s.bits.items;
+      ops = s.ops;
+    } };
 
-    ghost invariant = { λ s. (length s.params.now ≤ 6) × (AllByRecursion IsParam s.params.now) × ((t : List ℕ) → get_by (λ k. slice_cmp nat_cmp t k.now) s.index ≡ known (map (λ n. n.now) s.names.items) t) };
+    ghost invariant = { λ s. (length s.params.now ≤ 6) × (AllByRecursion IsParam s.params.now)
+        × ((t : List ℕ) → get_by (λ k. slice_cmp nat_cmp t k.now) s.index ≡ value_named
+        (map (λ n. n.now) s.names.items) t) };
 }
 
 impl<'a> Reader<'a> {
@@ -69,8 +78,8 @@ impl<'a> Reader<'a> {
     }
 
     /// The value number of the result of this name.
-    fn known(&self, name: &str) -> Option<u16>
-        ensures { result ≡ spec.known self.now.names name.now }
+    fn value_named(&self, name: &str) -> Option<u16>
+        ensures { result ≡ spec.value_named self.now.names name.now }
     {
         self.index.get(name).copied()
     }
@@ -80,7 +89,7 @@ impl<'a> Reader<'a> {
     {
         match lookup::scalar_at(self.params, name) {
             Some(operand) => Some(operand),
-            None => Some(Operand::Value(self.known(name)?)),
+            None => Some(Operand::Value(self.value_named(name)?)),
         }
     }
 
@@ -90,9 +99,9 @@ impl<'a> Reader<'a> {
         ensures { result ≡ spec.operand_of self.now text.now }
     {
         if starts_with_digit(text) {
-            return Some(Operand::Literal(word(text)?));
+            return Some(Operand::Literal(word(text.as_bytes())?));
         }
-        if is_identifier(text) {
+        if is_identifier(text.as_bytes()) {
             return self.named_operand(text);
         }
         lookup::array_operand(self.params, text)
@@ -113,7 +122,7 @@ impl<'a> Reader<'a> {
         let Some(operand) = self.operand(text) else {
             return Err(if starts_with_digit(text) { 11 } else { 9 });
         };
-        if needs_count(kind, place) && !lookup::is_count(operand) {
+        if needs_shift(kind, place) && !lookup::is_shift(operand) {
             return Err(12);
         }
         if needs_bit(kind, place) && !self.is_bit(operand) {
@@ -127,13 +136,13 @@ impl<'a> Reader<'a> {
     pub fn result(&self, text: &str) -> Result<Target, u8>
         ensures code { MeetsCode result (first_code (spec.result_rules self.now text.now)) }
         ensures value { IfOk result (λ target. target ≡ spec.target_of self.now.params text.now) }
-        ensures new { OnOk result (spec.known self.now.names text.now ≡ None) }
+        ensures new { OnOk result (spec.value_named self.now.names text.now ≡ None) }
     {
-        if is_identifier(text) {
-            if numbered(self.params, text).is_some() {
+        if is_identifier(text.as_bytes()) {
+            if param_named(self.params, text).is_some() {
                 return Err(10);
             }
-            if self.known(text).is_some() {
+            if self.value_named(text).is_some() {
                 return Err(10);
             }
             return Ok(Target::Value);
@@ -162,12 +171,12 @@ impl<'a> Reader<'a> {
 
     /// Puts a result behind those that are there.
     pub fn add(&mut self, text: &'a str, target: Target) -> Result<(), AllocError>
-        requires new { spec.known self.old.names text.now ≡ None }
+        requires new { spec.value_named self.old.names text.now ≡ None }
         requires target { target ≡ spec.target_of self.old.params text.now }
         requires room { length self.old.names < 65536 }
         ensures { OnOk result (self.new ≡ spec.with_result self.old text.entry.now) }
     {
-        if !is_identifier(text) {
+        if !is_identifier(text.as_bytes()) {
             self.targets.push(target)?;
             self.names.push(text)?;
             return Ok(());

@@ -1,27 +1,15 @@
--- The texts of a program: identifiers, and the words of arrays, in this project's form after Fiat
--- Cryptography's JSON. A text is the list of its bytes.
-use Rattle.std.specs.Prelude.{ℕ, Bool, false, not, ◌&&◌, ◌||◌, ◌==◌, nat_lt, nat_le, List, [], ◌∷◌, length, codes, Option, is_some}
+-- The texts of a program: unused results, and the words of arrays, in this project's form after Fiat Cryptography's
+-- JSON. A text is the list of its bytes.
+use Rattle.std.specs.Prelude.{ℕ, Bool, false, not, ◌&&◌, ◌==◌, nat_lt, List, [], ◌∷◌, length, Option, is_some}
 use Rattle.std.specs.List.{list_all, position_or_len, before_first, after_first}
 use Rattle.std.specs.Str.{bytes_eq}
-use Rattle.std.specs.Char.{is_ascii_alphabetic, is_ascii_alphanumeric, is_ascii_digit}
-use Rattle.word_text.specs.Options.{◌>>=◌, holds}
-
--- a letter or `_`
-abbrev pub is_name_start : ℕ → Bool
-is_name_start c = is_ascii_alphabetic c || c == 95
-
--- a letter, a digit or `_`
-abbrev pub is_name_byte : ℕ → Bool
-is_name_byte c = is_ascii_alphanumeric c || c == 95
+use Rattle.std.specs.Char.{is_ascii_digit}
+use Rattle.base.specs.Options.{◌>>=◌, guard}
+use Rattle.base.specs.Identifiers.{is_identifier, is_underscore}
 
 -- `_`, the name of a result that nothing reads
 abbrev pub is_unused : List ℕ → Bool
-is_unused text = bytes_eq text (codes "_")
-
--- a letter or `_`, then letters, digits or `_`, at most 64 bytes, and not `_` alone
-unfoldable pub is_identifier : List ℕ → Bool
-is_identifier [] = false
-is_identifier (c ∷ cs) = is_name_start c && (list_all is_name_byte cs && (nat_le (length (c ∷ cs)) 64 && not (is_unused (c ∷ cs))))
+is_unused text = is_underscore text
 
 -- it begins with a digit
 abbrev pub starts_with_digit : List ℕ → Bool
@@ -39,20 +27,21 @@ is_index (c ∷ d ∷ ds) = is_ascii_digit c && (not (c == 48) && list_all is_de
 
 -- what stands before and after the first byte that is c, where there is one
 abbrev pub cut : ℕ → List ℕ → Option (List ℕ × List ℕ)
-cut c text = holds (nat_lt (position_or_len (λ b. b == c) text) (length text)) (before_first (λ b. b == c) text, after_first (λ b. b == c) text)
+cut c text = guard (nat_lt (position_or_len (λ b. b == c) text) (length text))
+    (before_first (λ b. b == c) text, after_first (λ b. b == c) text)
 
 -- what stands before brackets at the end of a text, and in them
 unfoldable pub bracketed : List ℕ → Option (List ℕ × List ℕ)
 bracketed text = do
   outer ← cut 91 text
   inner ← cut 93 outer.1
-  holds (bytes_eq inner.1 []) (outer.0, inner.0)
+  guard (bytes_eq inner.1 []) (outer.0, inner.0)
 
 -- the name and the index of `name[index]`, where the name is an identifier and the index has its form
 unfoldable pub word_parts : List ℕ → Option (List ℕ × List ℕ)
 word_parts text = do
   parts ← bracketed text
-  holds (is_identifier parts.0 && is_index parts.1) parts
+  guard (is_identifier parts.0 && is_index parts.1) parts
 
 -- it has the form `name[index]`; no identifier has it, nor has `_`
 abbrev pub is_word_form : List ℕ → Bool

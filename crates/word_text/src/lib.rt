@@ -1,20 +1,15 @@
-//! Texts and the numbers in them, and the parts of a program as its file spells it.
+//! The parts of a program as its file spells it: its texts, and the places of its faults.
 //!
-//! It promises to the reader of a program what a text is: an identifier, a word, or a word of an array.
+//! It promises to the reader of a program what a text is: an index, a word of an array, or a datatype.
 #![tactic(auto)]
 
 mod fault;
-mod items;
 mod names;
 mod numbers;
 mod parts;
-mod text;
 
+pub use base::{Items, Text};
 pub use fault::{Place, ProgramFault, Section};
-pub use items::Items;
-pub use names::{
-    bracketed, is_identifier, is_index, is_unused, is_word_form, starts_with_digit, word_parts,
-};
-pub use numbers::{array_words, index_below, word};
+pub use names::{bracketed, is_index, is_unused, is_word_form, starts_with_digit, word_parts};
+pub use numbers::{array_words, index_below};
 pub use parts::{RawOp, RawOps, RawParam, RawParams, RawProgram, Texts};
-pub use text::Text;

@@ -2,43 +2,13 @@ ghost use Rattle.std.specs.Prelude.{◌≡◌, option_map};
 ghost use Rattle.std.specs.List.{list_all};
 ghost use Rattle.word_text.specs.Texts as spec;
 
-fn is_name_start(byte: u8) -> bool
-    ensures { result ≡ spec.is_name_start byte }
-{
-    byte.is_ascii_alphabetic() || byte == b'_'
-}
-
-fn is_name_byte(byte: u8) -> bool
-    ensures { result ≡ spec.is_name_byte byte }
-{
-    byte.is_ascii_alphanumeric() || byte == b'_'
-}
-
-fn are_name_bytes(bytes: &[u8]) -> bool
-    ensures { result ≡ list_all spec.is_name_byte bytes.now }
-{
-    bytes.iter().all(|byte| is_name_byte(*byte))
-}
+use base::is_identifier;
 
 /// Whether the text is `_`, the name of a result that nothing reads.
 pub fn is_unused(text: &str) -> bool
     ensures { result ≡ spec.is_unused text.now }
 {
     text == "_"
-}
-
-/// Whether the text is an identifier: an ASCII letter or `_`, then letters, digits or `_`, at most 64
-/// bytes, and not `_` alone.
-#[tactic(auto, unfolding(crate::specs::Texts::is_identifier))]
-pub fn is_identifier(text: &str) -> bool
-    ensures { result ≡ spec.is_identifier text.now }
-{
-    match text.as_bytes() {
-        [] => false,
-        [first, rest @ ..] => {
-            is_name_start(*first) && are_name_bytes(rest) && text.len() <= 64 && !is_unused(text)
-        }
-    }
 }
 
 /// Whether the text begins with a decimal digit.
@@ -101,7 +71,7 @@ pub fn word_parts(text: &str) -> Option<(&str, &str)>
     ensures { option_map (λ p. (p.0.now, p.1.now)) result ≡ spec.word_parts text.entry.now }
 {
     let (name, index) = bracketed(text)?;
-    if is_identifier(name) && is_index(index) {
+    if is_identifier(name.as_bytes()) && is_index(index) {
         Some((name, index))
     } else {
         None
@@ -112,5 +82,5 @@ pub fn word_parts(text: &str) -> Option<(&str, &str)>
 pub fn is_word_form(text: &str) -> bool
     ensures { result ≡ spec.is_word_form text.now }
 {
-    !is_identifier(text) && !is_unused(text) && word_parts(text).is_some()
+    !is_identifier(text.as_bytes()) && !is_unused(text) && word_parts(text).is_some()
 }

@@ -1,5 +1,4 @@
-use crate::items::Items;
-use crate::text::Text;
+use base::{Items, Text};
 
 /// A list of texts.
 pub type Texts = Items<Text>;

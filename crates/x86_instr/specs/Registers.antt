@@ -1,7 +1,8 @@
 -- The registers' numbers (Intel Software Developer's Manual, volume 2, section 3.1.1.1, table 3-1).
 use Rattle.std.specs.Prelude.{ℕ}
 use Rattle.x86_instr.specs.declared.operand.Reg.{Reg}
-use Rattle.x86_instr.specs.declared.operand.Reg.TheVariants.{Rax, Rcx, Rdx, Rbx, Rsp, Rbp, Rsi, Rdi, R8, R9, R10, R11, R12, R13, R14, R15}
+use Rattle.x86_instr.specs.declared.operand.Reg.TheVariants.{Rax, Rcx, Rdx, Rbx, Rsp, Rbp, Rsi, Rdi, R8, R9, R10, R11}
+use Rattle.x86_instr.specs.declared.operand.Reg.TheVariants.{R12, R13, R14, R15}
 
 abbrev pub number_of : Reg → ℕ
 number_of Rax = 0

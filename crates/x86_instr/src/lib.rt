@@ -15,8 +15,8 @@ mod mnemonic;
 mod operand;
 mod owner;
 mod ranges;
-mod text;
 
+pub use base::Text;
 pub use instr::{Bin, Cond, Instr, Un};
 pub use line::{Line, Lines};
 pub use listing::{Listing, ListingFault};
@@ -24,4 +24,3 @@ pub use mnemonic::{Mnemonic, mnemonic_of};
 pub use operand::{Index, Mem, Reg, Rm, Src};
 pub use owner::Owner;
 pub use ranges::{IndexReg, Scale, ShiftCount};
-pub use text::Text;

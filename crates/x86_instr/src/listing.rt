@@ -6,7 +6,7 @@ ghost use Rattle.x86_instr.specs.Frame as spec;
 use crate::instr::{Bin, Instr};
 use crate::line::{Line, Lines};
 use crate::operand::{Reg, Src};
-use crate::text::Text;
+use base::Text;
 use std::alloc::Global;
 use std::marker::Model;
 use thiserror::Error;

@@ -22,6 +22,9 @@ funnel_fits low high bits small few =
     let q_above : 0 < 2 ^ (64 - bits) = pow_pos (64 - bits) in
     let turned : 2 ^ 64 ≡ 2 ^ (64 - bits) * 2 ^ bits = omega (arith, split) in
     let top : high * q % 2 ^ 64 ≡ (high * q / q % p) * q =
-    ap (λ n. high * q % 2 ^ n) (sym counts) ∙ (mod-pow-add (high * q) bits (64 - bits) ∙ (ap (λ n. (high * q / q % p) * q + n) (mul-mod_left high q) ∙ omega arith)) in
+    ap (λ n. high * q % 2 ^ n) (sym counts)
+    ∙ (mod-pow-add (high * q) bits (64 - bits)
+    ∙ (ap (λ n. (high * q / q % p) * q + n) (mul-mod_left high q) ∙ omega arith)) in
     subst (λ n. low / p + n < 2 ^ 64) (sym top)
-    (parts_fit (low / p) (high * q / q % p) p q (2 ^ 64) ((div-lt_iff_lt-mul p_above).1 (omega (arith, small, turned))) (mod-lt _ p_above) split)
+    (parts_fit (low / p) (high * q / q % p) p q (2 ^ 64) ((div-lt_iff_lt-mul p_above).1 (omega (arith, small, turned)))
+    (mod-lt _ p_above) split)

@@ -1,6 +1,7 @@
--- That a run keeps the memory: words of areas that are apart have different places, and a store to an
+-- That a run keeps the memory: words of areas that are apart have different addresses, and a store to an
 -- output array or to the frame leaves all the other cells.
-use Rattle.std.proofs.Common.{◌≡◌, ◌≢◌, ℕ, ◌/◌, ◌<◌, ◌≤◌, true, false, not, List, length, Option, Some, None, IsSome, IsTrue, slice_get, if◌then◌else◌, refl, sym, ◌∙◌, subst, arith, lt_of_lt_of_le}
+use Rattle.std.proofs.Common.{◌≡◌, ◌≢◌, ℕ, ◌/◌, ◌<◌, ◌≤◌, true, false, not, List, length, Option, Some, None, IsSome}
+use Rattle.std.proofs.Common.{IsTrue, slice_get, if◌then◌else◌, refl, sym, ◌∙◌, subst, arith, lt_of_lt_of_le}
 use Rattle.std.specs.Option.{option_map_or}
 use Rattle.std.specs.FinMap as map
 use Rattle.word_program.specs.declared.parameter.Param.{Param}
@@ -12,7 +13,8 @@ use Rattle.x86_instr.specs.declared.line.Line.{Line}
 use Rattle.x86_meaning.specs.declared.state.State.{State}
 use Rattle.x86_meaning.specs.Machine.{Cells}
 use Rattle.x86_instr.specs.Frame.{frame_of}
-use Rattle.x86_meaning.specs.Start.{Area, Array, Frame, Return, array_words, output_words, input_array_words, area_words, place_of, is_apart, IsStart}
+use Rattle.x86_meaning.specs.Start.{Area, Array, Frame, Return, array_words, output_words, input_array_words}
+use Rattle.x86_meaning.specs.Start.{area_words, address_of, is_apart, IsStart}
 use Rattle.x86_meaning.specs.Correct.{IsOutside, Keeps}
 use Rattle.x86_meaning.proofs.Memory.{get_put_other, has_put}
 
@@ -37,12 +39,14 @@ input_role InputArray n = omega arith
 input_role InputScalar n = omega arith
 
 -- the same of a parameter that may be missing
-output_at : (o : Option Param) → option_map_or (λ p. if is_output p.role then length p.bounds else 0) o 0 ≤ option_map_or (λ p. if not (is_scalar p.role) then length p.bounds else 0) o 0
+output_at : (o : Option Param) → option_map_or (λ p. if is_output p.role then length p.bounds else 0) o 0
+    ≤ option_map_or (λ p. if not (is_scalar p.role) then length p.bounds else 0) o 0
 output_at None = omega arith
 output_at (Some p) = output_role p.role (length p.bounds)
 
 -- the same of a parameter that may be missing
-input_at : (o : Option Param) → option_map_or (λ p. if is_input_array p.role then length p.bounds else 0) o 0 ≤ option_map_or (λ p. if not (is_scalar p.role) then length p.bounds else 0) o 0
+input_at : (o : Option Param) → option_map_or (λ p. if is_input_array p.role then length p.bounds else 0) o 0
+    ≤ option_map_or (λ p. if not (is_scalar p.role) then length p.bounds else 0) o 0
 input_at None = omega arith
 input_at (Some p) = input_role p.role (length p.bounds)
 
@@ -55,7 +59,8 @@ pub input-le-array : (params : List Param) (param : ℕ) → input_array_words p
 input-le-array params param = input_at (slice_get params param)
 
 -- the words that may be stored to are words of their area
-pub written-le-area : (params : List Param) (frame : ℕ) (area : Area) → written_words params frame area ≤ area_words params frame area
+pub written-le-area : (params : List Param) (frame : ℕ) (area : Area)
+    → written_words params frame area ≤ area_words params frame area
 written-le-area params frame (Array param) = output-le-array params param
 written-le-area params frame Frame = omega arith
 written-le-area params frame Return = omega arith
@@ -67,24 +72,29 @@ output_role_is InputArray n word h = absurd (omega arith)
 output_role_is InputScalar n word h = absurd (omega arith)
 
 -- the same of a parameter that may be missing
-output_is_at : (o : Option Param) (word : ℕ) → word < option_map_or (λ p. if is_output p.role then length p.bounds else 0) o 0 → option_map_or (λ p. is_output p.role) o false ≡ true
+output_is_at : (o : Option Param) (word : ℕ)
+    → word < option_map_or (λ p. if is_output p.role then length p.bounds else 0) o 0
+    → option_map_or (λ p. is_output p.role) o false ≡ true
 output_is_at None word h = absurd (omega arith)
 output_is_at (Some p) word h = output_role_is p.role (length p.bounds) word h
 
 -- an area with a word that may be stored to shares no cell with any other
-pub written_apart : (params : List Param) (frame : ℕ) (area : Area) (word : ℕ) → word < written_words params frame area → IsTrue (is_apart params area)
+pub written_apart : (params : List Param) (frame : ℕ) (area : Area) (word : ℕ) → word < written_words params frame area
+    → IsTrue (is_apart params area)
 written_apart params frame (Array param) word h = output_is_at (slice_get params param) word h
 written_apart params frame Frame word h = refl
 written_apart params frame Return word h = refl
 
 -- a parameter has no words as an output and as an input array
-one_role : (role : Role) (n i j : ℕ) → i < (if is_output role then n else 0) → j < (if is_input_array role then n else 0) → ⊥
+one_role : (role : Role) (n i j : ℕ) → i < (if is_output role then n else 0)
+    → j < (if is_input_array role then n else 0) → ⊥
 one_role Output n i j h k = omega arith
 one_role InputArray n i j h k = omega arith
 one_role InputScalar n i j h k = omega arith
 
 -- the same of a parameter that may be missing
-one_role_at : (o : Option Param) (i j : ℕ) → i < option_map_or (λ p. if is_output p.role then length p.bounds else 0) o 0
+one_role_at : (o : Option Param) (i j : ℕ)
+    → i < option_map_or (λ p. if is_output p.role then length p.bounds else 0) o 0
     → j < option_map_or (λ p. if is_input_array p.role then length p.bounds else 0) o 0 → ⊥
 one_role_at None i j h k = omega arith
 one_role_at (Some p) i j h k = one_role p.role (length p.bounds) i j h k
@@ -98,82 +108,102 @@ frame-ne-array : {p : ℕ} → Frame ≢ Array p
 frame-ne-array {p} e = cc
 
 -- no array is both an output and an input
-pub output-ne-input : (params : List Param) (p q i j : ℕ) → i < output_words params p → j < input_array_words params q → Array p ≢ Array q
-output-ne-input params p q i j h k e = one_role_at (slice_get params q) i j (subst (λ r. i < output_words params r) (array_number e) h) k
+pub output-ne-input : (params : List Param) (p q i j : ℕ) → i < output_words params p → j < input_array_words params q
+    → Array p ≢ Array q
+output-ne-input params p q i j h k e = one_role_at (slice_get params q) i j
+    (subst (λ r. i < output_words params r) (array_number e) h) k
 
--- ---- places
+-- ---- addresses
 
--- two words of one area have different places
-pub place_injective : (s : State) (frame : ℕ) (area : Area) (i j : ℕ) → place_of s frame area i ≡ place_of s frame area j → i ≡ j
-place_injective s frame (Array param) i j e = omega arith
-place_injective s frame Frame i j e = omega arith
-place_injective s frame Return i j e = omega arith
+-- two words of one area have different addresses
+pub address_injective : (s : State) (frame : ℕ) (area : Area) (i j : ℕ)
+    → address_of s frame area i ≡ address_of s frame area j → i ≡ j
+address_injective s frame (Array param) i j e = omega arith
+address_injective s frame Frame i j e = omega arith
+address_injective s frame Return i j e = omega arith
 
--- a place outside is none that may be stored to
-pub outside_written : (params : List Param) (frame : ℕ) (s : State) (area : Area) (word place : ℕ) → word < written_words params frame area
-    → IsOutside params frame s place → place ≢ place_of s frame area word
-outside_written params frame s (Array param) word place h outside = outside.outputs param word h
-outside_written params frame s Frame word place h outside = outside.under_stack word h
-outside_written params frame s Return word place h outside = absurd (omega arith)
+-- an address outside is none that may be stored to
+pub outside_written : (params : List Param) (frame : ℕ) (s : State) (area : Area) (word address : ℕ)
+    → word < written_words params frame area
+    → IsOutside params frame s address → address ≢ address_of s frame area word
+outside_written params frame s (Array param) word address h outside = outside.outputs param word h
+outside_written params frame s Frame word address h outside = outside.under_stack word h
+outside_written params frame s Return word address h outside = absurd (omega arith)
 
 -- another word of the area of a store holds what it held
 pub put_same_area : (s : State) (frame : ℕ) (cells : Cells) (area : Area) (i j value : ℕ) → j ≢ i
-    → map.get (map.insert cells (place_of s frame area i) value) (place_of s frame area j) ≡ map.get cells (place_of s frame area j)
+    → map.get (map.insert cells (address_of s frame area i) value) (address_of s frame area j) ≡ map.get cells
+    (address_of s frame area j)
 put_same_area s frame cells area i j value other =
-    get_put_other cells (place_of s frame area i) value (place_of s frame area j) (λ e. other (place_injective s frame area j i e))
+    get_put_other cells (address_of s frame area i) value (address_of s frame area j)
+    (λ e. other (address_injective s frame area j i e))
 
 -- ---- keeping
 
 -- the start state keeps its own memory
 pub keeps_start : (params : List Param) (frame : ℕ) (s : State) → Keeps params frame s s.cells
-keeps_start params frame s = record { places = λ place. refl; others = λ place outside. refl }
+keeps_start params frame s = record { addresses = λ address. refl; others = λ address outside. refl }
 
-module _ (program : Source) (lines : List Line) (inputs : List ℕ) (s : State) (start : IsStart program lines inputs s) where
-  -- words of two areas have different places, where one of them may be stored to
-  pub places_apart : (a b : Area) (i j : ℕ) → a ≢ b → i < written_words program.params (frame_of lines) a → j < area_words program.params (frame_of lines) b
-      → place_of s (frame_of lines) a i ≢ place_of s (frame_of lines) b j
-  places_apart a b i j other h k =
+module _ (program : Source) (lines : List Line) (inputs : List ℕ) (s : State)
+    (start : IsStart program lines inputs s) where
+  -- words of two areas have different addresses, where one of them may be stored to
+  pub addresses_apart : (a b : Area) (i j : ℕ) → a ≢ b → i < written_words program.params (frame_of lines) a
+      → j < area_words program.params (frame_of lines) b
+      → address_of s (frame_of lines) a i ≢ address_of s (frame_of lines) b j
+  addresses_apart a b i j other h k =
       start.apart a b other (written_apart program.params (frame_of lines) a i h) i j
       (lt_of_lt_of_le h (written-le-area program.params (frame_of lines) a)) k
 
   -- a word of another area than that of a store holds what it held
-  pub put_other_area : (cells : Cells) (a b : Area) (i j value : ℕ) → a ≢ b → i < written_words program.params (frame_of lines) a
+  pub put_other_area : (cells : Cells) (a b : Area) (i j value : ℕ) → a ≢ b
+      → i < written_words program.params (frame_of lines) a
       → j < area_words program.params (frame_of lines) b
-      → map.get (map.insert cells (place_of s (frame_of lines) a i) value) (place_of s (frame_of lines) b j) ≡ map.get cells (place_of s (frame_of lines) b j)
+      → map.get (map.insert cells (address_of s (frame_of lines) a i) value) (address_of s (frame_of lines) b j)
+      ≡ map.get cells (address_of s (frame_of lines) b j)
   put_other_area cells a b i j value other h k =
-      get_put_other cells (place_of s (frame_of lines) a i) value (place_of s (frame_of lines) b j) (λ e. places_apart a b i j other h k (sym e))
+      get_put_other cells (address_of s (frame_of lines) a i) value (address_of s (frame_of lines) b j)
+      (λ e. addresses_apart a b i j other h k (sym e))
 
   -- a memory that keeps has every word of every area
   pub kept_there : (cells : Cells) (area : Area) (word : ℕ) → Keeps program.params (frame_of lines) s cells
-      → word < area_words program.params (frame_of lines) area → IsSome (map.get cells (place_of s (frame_of lines) area word))
-  kept_there cells area word kept h = kept.places (place_of s (frame_of lines) area word) ∙ start.there area word h
+      → word < area_words program.params (frame_of lines) area
+      → IsSome (map.get cells (address_of s (frame_of lines) area word))
+  kept_there cells area word kept h = kept.addresses (address_of s (frame_of lines) area word) ∙ start.there area word h
 
   -- and so the words that may be stored to
   pub written_there : (cells : Cells) (area : Area) (word : ℕ) → Keeps program.params (frame_of lines) s cells
-      → word < written_words program.params (frame_of lines) area → IsSome (map.get cells (place_of s (frame_of lines) area word))
-  written_there cells area word kept h = kept_there cells area word kept (lt_of_lt_of_le h (written-le-area program.params (frame_of lines) area))
+      → word < written_words program.params (frame_of lines) area
+      → IsSome (map.get cells (address_of s (frame_of lines) area word))
+  written_there cells area word kept h = kept_there cells area word kept
+      (lt_of_lt_of_le h (written-le-area program.params (frame_of lines) area))
 
   -- a store to an output array or to the frame keeps
   pub keeps_put : (cells : Cells) (area : Area) (word value : ℕ) → Keeps program.params (frame_of lines) s cells
       → word < written_words program.params (frame_of lines) area
-      → Keeps program.params (frame_of lines) s (map.insert cells (place_of s (frame_of lines) area word) value)
+      → Keeps program.params (frame_of lines) s (map.insert cells (address_of s (frame_of lines) area word) value)
   keeps_put cells area word value kept h = record {
-    places = λ q. has_put cells (place_of s (frame_of lines) area word) value q (written_there cells area word kept h) ∙ kept.places q;
+    addresses = λ q. has_put cells (address_of s (frame_of lines) area word) value q
+        (written_there cells area word kept h) ∙ kept.addresses q;
     others = λ q outside.
-        get_put_other cells (place_of s (frame_of lines) area word) value q (outside_written program.params (frame_of lines) s area word q h outside)
+        get_put_other cells (address_of s (frame_of lines) area word) value q
+        (outside_written program.params (frame_of lines) s area word q h outside)
         ∙ kept.others q outside;
   }
 
   -- the words of input arrays lie outside
   pub input_outside : (param word : ℕ) → word < input_array_words program.params param
-      → IsOutside program.params (frame_of lines) s (place_of s (frame_of lines) (Array param) word)
+      → IsOutside program.params (frame_of lines) s (address_of s (frame_of lines) (Array param) word)
   input_outside param word h = let k = lt_of_lt_of_le h (input-le-array program.params param) in record {
-    outputs = λ p i there e. places_apart (Array p) (Array param) i word (output-ne-input program.params p param i word there h) there k (sym e);
-    under_stack = λ i there e. places_apart Frame (Array param) i word frame-ne-array there k (sym e);
+    outputs = λ p i there e. addresses_apart (Array p) (Array param) i word
+        (output-ne-input program.params p param i word there h) there k (sym e);
+    under_stack = λ i there e. addresses_apart Frame (Array param) i word frame-ne-array there k (sym e);
   }
 
   -- and hold the inputs in every memory that keeps
-  pub input_kept : (cells : Cells) (param word : ℕ) → Keeps program.params (frame_of lines) s cells → word < input_array_words program.params param
-      → map.get cells (place_of s (frame_of lines) (Array param) word) ≡ Some (input_word program.params inputs param word)
+  pub input_kept : (cells : Cells) (param word : ℕ) → Keeps program.params (frame_of lines) s cells
+      → word < input_array_words program.params param
+      → map.get cells (address_of s (frame_of lines) (Array param) word) ≡ Some
+      (input_word program.params inputs param word)
   input_kept cells param word kept h =
-      kept.others (place_of s (frame_of lines) (Array param) word) (input_outside param word h) ∙ start.arrays param word h
+      kept.others (address_of s (frame_of lines) (Array param) word) (input_outside param word h)
+      ∙ start.arrays param word h

@@ -8,5 +8,5 @@ pub mod Funnel
 pub mod FrameLimits
 pub mod StatedIsStart
 pub mod StuckLines
-pub mod Places
+pub mod Addresses
 pub mod StatedRows

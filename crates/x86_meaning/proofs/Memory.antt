@@ -6,22 +6,28 @@ use Rattle.std.specs.FinMap as map
 use Rattle.std.proofs.lemmas.Bool.Decides.{nat_tests}
 use Rattle.x86_meaning.specs.Machine.{Cells}
 
--- the map tells places apart as numbers
-same_place : (q place : ℕ) → eq_by_cmp nat_cmp q place ≡ (q == place)
-same_place q place = grind (arith, nat_tests)
+-- the map tells addresses apart as numbers
+same_address : (q address : ℕ) → eq_by_cmp nat_cmp q address ≡ (q == address)
+same_address q address = grind (arith, nat_tests)
 
--- every place after a store
-pub get_put : (cells : Cells) (place word q : ℕ) → map.get (map.insert cells place word) q ≡ cond (q == place) (Some word) (map.get cells q)
-get_put cells place word q = map.get-insert nat_cmp_total cells place word q ∙ ap (λ b. cond b (Some word) (map.get cells q)) (same_place q place)
+-- every address after a store
+pub get_put : (cells : Cells) (address word q : ℕ)
+    → map.get (map.insert cells address word) q ≡ cond (q == address) (Some word) (map.get cells q)
+get_put cells address word q = map.get-insert nat_cmp_total cells address word q
+    ∙ ap (λ b. cond b (Some word) (map.get cells q)) (same_address q address)
 
--- the place of the store holds the word
-pub get_put_same : (cells : Cells) (place word : ℕ) → map.get (map.insert cells place word) place ≡ Some word
-get_put_same cells place word = get_put cells place word place ∙ ap (λ b. cond b (Some word) (map.get cells place)) (eq-eqb place place refl)
+-- the address of the store holds the word
+pub get_put_same : (cells : Cells) (address word : ℕ) → map.get (map.insert cells address word) address ≡ Some word
+get_put_same cells address word = get_put cells address word address
+    ∙ ap (λ b. cond b (Some word) (map.get cells address)) (eq-eqb address address refl)
 
--- another place holds what it held
-pub get_put_other : (cells : Cells) (place word q : ℕ) → q ≢ place → map.get (map.insert cells place word) q ≡ map.get cells q
-get_put_other cells place word q other = get_put cells place word q ∙ ap (λ b. cond b (Some word) (map.get cells q)) (ne_eqb q place other)
+-- another address holds what it held
+pub get_put_other : (cells : Cells) (address word q : ℕ) → q ≢ address
+    → map.get (map.insert cells address word) q ≡ map.get cells q
+get_put_other cells address word q other =
+    get_put cells address word q ∙ ap (λ b. cond b (Some word) (map.get cells q)) (ne_eqb q address other)
 
--- where the place is in the memory, a store leaves the set of places
-pub has_put : (cells : Cells) (place word q : ℕ) → IsSome (map.get cells place) → is_some (map.get (map.insert cells place word) q) ≡ is_some (map.get cells q)
-has_put cells place word q there = ap is_some (get_put cells place word q) ∙ grind (arith, nat_tests)
+-- where the address is in the memory, a store leaves the set of addresses
+pub has_put : (cells : Cells) (address word q : ℕ) → IsSome (map.get cells address)
+    → is_some (map.get (map.insert cells address word) q) ≡ is_some (map.get cells q)
+has_put cells address word q there = ap is_some (get_put cells address word q) ∙ grind (arith, nat_tests)

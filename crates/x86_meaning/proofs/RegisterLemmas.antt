@@ -1,7 +1,9 @@
 -- What the registers hold after a write, and registers as sixteen variables.
-use Rattle.std.proofs.Common.{◌≡◌, ℕ, suc, ◌+◌, ◌<◌, ◌≢◌, List, [], ◌∷◌, length, slice_index_or, refl, sym, ap, ◌∙◌, subst, arith, length-set, get_or-set_same, get_or-set_other}
+use Rattle.std.proofs.Common.{◌≡◌, ℕ, suc, ◌+◌, ◌<◌, ◌≢◌, List, [], ◌∷◌, length, slice_index_or, refl, sym, ap, ◌∙◌}
+use Rattle.std.proofs.Common.{subst, arith, length-set, get_or-set_same, get_or-set_other}
 use Rattle.x86_instr.specs.declared.operand.Reg.{Reg}
-use Rattle.x86_instr.specs.declared.operand.Reg.TheVariants.{Rax, Rcx, Rdx, Rbx, Rsp, Rbp, Rsi, Rdi, R8, R9, R10, R11, R12, R13, R14, R15}
+use Rattle.x86_instr.specs.declared.operand.Reg.TheVariants.{Rax, Rcx, Rdx, Rbx, Rsp, Rbp, Rsi, Rdi, R8, R9, R10, R11}
+use Rattle.x86_instr.specs.declared.operand.Reg.TheVariants.{R12, R13, R14, R15}
 use Rattle.x86_meaning.specs.declared.state.State.{State}
 use Rattle.x86_instr.specs.Registers.{number_of}
 use Rattle.x86_meaning.specs.Machine.{reg, with_reg}
@@ -29,7 +31,8 @@ number_below R15 = omega arith
 
 -- the register with a number
 reg_numbered : ℕ → Reg
-reg_numbered n = slice_index_or (Rax ∷ Rcx ∷ Rdx ∷ Rbx ∷ Rsp ∷ Rbp ∷ Rsi ∷ Rdi ∷ R8 ∷ R9 ∷ R10 ∷ R11 ∷ R12 ∷ R13 ∷ R14 ∷ R15 ∷ []) n Rax
+reg_numbered n = slice_index_or (Rax ∷ Rcx ∷ Rdx ∷ Rbx ∷ Rsp ∷ Rbp ∷ Rsi ∷ Rdi ∷ R8 ∷ R9 ∷ R10 ∷ R11 ∷ R12 ∷ R13 ∷ R14
+    ∷ R15 ∷ []) n Rax
 
 -- each register is the one with its number
 reg_numbered-number_of : (r : Reg) → reg_numbered (number_of r) ≡ r
@@ -59,11 +62,13 @@ number_of-injective q r e = sym (reg_numbered-number_of q) ∙ (ap reg_numbered 
 
 -- a register that is written holds the word
 pub reg_written : (r : Reg) (word : ℕ) (s : State) → length s.regs ≡ 16 → reg (with_reg r word s) r ≡ word
-reg_written r word s sixteen = get_or-set_same s.regs (number_of r) word 0 (subst (λ n. number_of r < n) (sym sixteen) (number_below r))
+reg_written r word s sixteen = get_or-set_same s.regs (number_of r) word 0
+    (subst (λ n. number_of r < n) (sym sixteen) (number_below r))
 
 -- the others hold what they held
 pub reg_other : (q r : Reg) (word : ℕ) (s : State) → q ≢ r → reg (with_reg r word s) q ≡ reg s q
-reg_other q r word s other = get_or-set_other s.regs (number_of r) (number_of q) word 0 (λ e. other (number_of-injective q r e))
+reg_other q r word s other = get_or-set_other s.regs (number_of r) (number_of q) word 0
+    (λ e. other (number_of-injective q r e))
 
 -- a write leaves as many registers
 pub length-with_reg : (r : Reg) (word : ℕ) (s : State) → length (with_reg r word s).regs ≡ length s.regs
@@ -72,7 +77,8 @@ length-with_reg r word s = length-set s.regs (number_of r) word
 -- ---- sixteen variables
 
 -- a list with one word more has a first one
-first_of_more : (P : List ℕ → Type 0) (xs : List ℕ) (n : ℕ) → length xs ≡ suc n → ((x : ℕ) (rest : List ℕ) → length rest ≡ n → P (x ∷ rest)) → P xs
+first_of_more : (P : List ℕ → Type 0) (xs : List ℕ) (n : ℕ) → length xs ≡ suc n
+    → ((x : ℕ) (rest : List ℕ) → length rest ≡ n → P (x ∷ rest)) → P xs
 first_of_more P [] n e f = absurd (omega arith)
 first_of_more P (x ∷ rest) n e f = f x rest (omega arith)
 
@@ -82,7 +88,8 @@ none_of P [] e p = p
 none_of P (x ∷ rest) e p = absurd (omega arith)
 
 -- a list with four words more has four first ones
-four_of_more : (P : List ℕ → Type 0) (xs : List ℕ) (n : ℕ) → length xs ≡ n + 4 → ((a b c d : ℕ) (rest : List ℕ) → length rest ≡ n → P (a ∷ b ∷ c ∷ d ∷ rest)) → P xs
+four_of_more : (P : List ℕ → Type 0) (xs : List ℕ) (n : ℕ) → length xs ≡ n + 4
+    → ((a b c d : ℕ) (rest : List ℕ) → length rest ≡ n → P (a ∷ b ∷ c ∷ d ∷ rest)) → P xs
 four_of_more P xs n e f =
     first_of_more P xs (n + 3) (omega arith) (λ a aas ea.
     first_of_more (λ ys. P (a ∷ ys)) aas (n + 2) (omega arith) (λ b bbs eb.
@@ -91,12 +98,15 @@ four_of_more P xs n e f =
 
 -- what holds of any sixteen words in a row holds of a list of length 16
 pub by_sixteen : (P : List ℕ → Type 0) (xs : List ℕ) → length xs ≡ 16
-    → ((r0 r1 r2 r3 r4 r5 r6 r7 r8 r9 r10 r11 r12 r13 r14 r15 : ℕ) → P (r0 ∷ r1 ∷ r2 ∷ r3 ∷ r4 ∷ r5 ∷ r6 ∷ r7 ∷ r8 ∷ r9 ∷ r10 ∷ r11 ∷ r12 ∷ r13 ∷ r14 ∷ r15 ∷ []))
+    → ((r0 r1 r2 r3 r4 r5 r6 r7 r8 r9 r10 r11 r12 r13 r14 r15 : ℕ)
+    → P (r0 ∷ r1 ∷ r2 ∷ r3 ∷ r4 ∷ r5 ∷ r6 ∷ r7 ∷ r8 ∷ r9 ∷ r10 ∷ r11 ∷ r12 ∷ r13 ∷ r14 ∷ r15 ∷ []))
     → P xs
 by_sixteen P xs e f =
     four_of_more P xs 12 e (λ r0 r1 r2 r3 xs4 e4.
     four_of_more (λ ys. P (r0 ∷ r1 ∷ r2 ∷ r3 ∷ ys)) xs4 8 e4 (λ r4 r5 r6 r7 xs8 e8.
     four_of_more (λ ys. P (r0 ∷ r1 ∷ r2 ∷ r3 ∷ r4 ∷ r5 ∷ r6 ∷ r7 ∷ ys)) xs8 4 e8 (λ r8 r9 r10 r11 xs12 e12.
-    four_of_more (λ ys. P (r0 ∷ r1 ∷ r2 ∷ r3 ∷ r4 ∷ r5 ∷ r6 ∷ r7 ∷ r8 ∷ r9 ∷ r10 ∷ r11 ∷ ys)) xs12 0 e12 (λ r12 r13 r14 r15 xs16 e16.
-    none_of (λ ys. P (r0 ∷ r1 ∷ r2 ∷ r3 ∷ r4 ∷ r5 ∷ r6 ∷ r7 ∷ r8 ∷ r9 ∷ r10 ∷ r11 ∷ r12 ∷ r13 ∷ r14 ∷ r15 ∷ ys)) xs16 e16
+    four_of_more (λ ys. P (r0 ∷ r1 ∷ r2 ∷ r3 ∷ r4 ∷ r5 ∷ r6 ∷ r7 ∷ r8 ∷ r9 ∷ r10 ∷ r11 ∷ ys)) xs12 0 e12
+    (λ r12 r13 r14 r15 xs16 e16.
+    none_of (λ ys. P (r0 ∷ r1 ∷ r2 ∷ r3 ∷ r4 ∷ r5 ∷ r6 ∷ r7 ∷ r8 ∷ r9 ∷ r10 ∷ r11 ∷ r12 ∷ r13 ∷ r14 ∷ r15 ∷ ys)) xs16
+    e16
     (f r0 r1 r2 r3 r4 r5 r6 r7 r8 r9 r10 r11 r12 r13 r14 r15)))))

@@ -1,5 +1,7 @@
 -- The memory that is put together row by row is that of the stated start state.
-use Rattle.std.proofs.Common.{◌≡◌, ◌≢◌, ℕ, zero, suc, ◌+◌, ◌-◌, ◌*◌, ◌/◌, ◌%◌, ◌<◌, ◌≤◌, ◌==◌, Bool, true, false, not, nat_le, nat_lt, List, [], ◌∷◌, length, Some, None, slice_index, if◌then◌else◌, refl, sym, ap, ◌∙◌, subst, arith, Fits, w64}
+use Rattle.std.proofs.Common.{◌≡◌, ◌≢◌, ℕ, zero, suc, ◌+◌, ◌-◌, ◌*◌, ◌/◌, ◌%◌, ◌<◌, ◌≤◌, ◌==◌, Bool, true, false, not}
+use Rattle.std.proofs.Common.{nat_le, nat_lt, List, [], ◌∷◌, length, Some, None, slice_index, if◌then◌else◌, refl, sym}
+use Rattle.std.proofs.Common.{ap, ◌∙◌, subst, arith, Fits, w64}
 use Rattle.std.specs.List.{AllByRecursion}
 use Rattle.std.specs.FinMap as map
 use Rattle.std.specs.Ordering.{nat_cmp}
@@ -11,14 +13,16 @@ use Rattle.word_program.specs.Values.{is_scalar}
 use Rattle.word_program.specs.Accepted.{IsParam}
 use Rattle.word_program.specs.Program.{Source}
 use Rattle.x86_instr.specs.declared.operand.Reg.{Reg}
-use Rattle.x86_instr.specs.declared.operand.Reg.TheVariants.{Rax, Rcx, Rdx, Rbx, Rsp, Rbp, Rsi, Rdi, R8, R9, R10, R11, R12, R13, R14, R15}
+use Rattle.x86_instr.specs.declared.operand.Reg.TheVariants.{Rax, Rcx, Rdx, Rbx, Rsp, Rbp, Rsi, Rdi, R8, R9, R10, R11}
+use Rattle.x86_instr.specs.declared.operand.Reg.TheVariants.{R12, R13, R14, R15}
 use Rattle.x86_instr.specs.declared.line.Line.{Line}
 use Rattle.x86_instr.specs.Frame.{frame_of}
 use Rattle.x86_instr.specs.Registers.{number_of}
 use Rattle.x86_meaning.specs.Machine.{Cells}
 use Rattle.x86_meaning.specs.Start.{array_words}
-use Rattle.x86_meaning.specs.Stated.{filling, stack_place, array_place, array_cell, is_stack, stated_cell, stated_reg, AreParams, AreWords, IsStated}
-use Rattle.x86_meaning.specs.StatedCells.{row, array_row, array_rows, stated_cells, stated_regs}
+use Rattle.x86_meaning.specs.Stated.{filling, stack_address, array_address, array_cell, is_stack, stated_cell}
+use Rattle.x86_meaning.specs.Stated.{stated_reg, AreParams, AreWords, IsStated}
+use Rattle.x86_meaning.specs.StatedCells.{cells_from, with_array, with_arrays, stated_cells, stated_regs}
 use Rattle.x86_meaning.proofs.Memory.{get_put_same, get_put_other}
 use Rattle.x86_meaning.proofs.FrameLimits.{frame_is}
 use Rattle.x86_meaning.proofs.StatedIsStart.{array_below}
@@ -26,22 +30,24 @@ use Rattle.x86_meaning.proofs.StatedIsStart.{array_below}
 -- ---- rows
 
 -- no word leaves the memory
-pub row_none : (place : ℕ) (word : ℕ → ℕ) (cells : Cells) → row place 0 word cells ≡ cells
-unfolding row
-row_none place word cells = refl
+pub row_none : (address : ℕ) (word : ℕ → ℕ) (cells : Cells) → cells_from address 0 word cells ≡ cells
+unfolding cells_from
+row_none address word cells = refl
 
 -- one word more is put behind the others
-pub row_more : (place n : ℕ) (word : ℕ → ℕ) (cells : Cells) → row place (n + 1) word cells ≡ map.insert (row place n word cells) (place + 8 * n) (word n)
-unfolding row
-row_more place n word cells = let e : n + 1 ≡ suc n = omega arith in rw e refl
+pub row_more : (address n : ℕ) (word : ℕ → ℕ) (cells : Cells)
+    → cells_from address (n + 1) word cells ≡ map.insert (cells_from address n word cells) (address + 8 * n) (word n)
+unfolding cells_from
+row_more address n word cells = let e : n + 1 ≡ suc n = omega arith in rw e refl
 
-pub rows_none : (params : List Param) (inputs : List ℕ) (cells : Cells) → array_rows params inputs 0 cells ≡ cells
-unfolding array_rows
+pub rows_none : (params : List Param) (inputs : List ℕ) (cells : Cells) → with_arrays params inputs 0 cells ≡ cells
+unfolding with_arrays
 rows_none params inputs cells = refl
 
-pub rows_more : (params : List Param) (inputs : List ℕ) (n : ℕ) (cells : Cells) → array_rows params inputs (n + 1) cells ≡ array_row params inputs n (array_rows params inputs n cells)
-unfolding array_rows
-rows_more params inputs n cells = let e : n + 1 ≡ suc n = omega arith in ap (λ k. array_rows params inputs k cells) e
+pub rows_more : (params : List Param) (inputs : List ℕ) (n : ℕ) (cells : Cells)
+    → with_arrays params inputs (n + 1) cells ≡ with_array params inputs n (with_arrays params inputs n cells)
+unfolding with_arrays
+rows_more params inputs n cells = let e : n + 1 ≡ suc n = omega arith in ap (λ k. with_arrays params inputs k cells) e
 
 -- ---- limits
 
@@ -60,7 +66,7 @@ words_limit (p ∷ ps) all (suc param) = words_limit ps all.1 param
 pub params_limits : (params : List Param) → length params ≤ 6 → AllByRecursion IsParam params → AreParams params
 params_limits params six all = record { six = six; short = words_limit params all }
 
--- ---- what stands at a place
+-- ---- what stands at an address
 
 below : (i n : ℕ) → i < suc n → i ≢ n → i < n
 below i n h ne = by_order (nat_lt i n) refl
@@ -69,55 +75,70 @@ below i n h ne = by_order (nat_lt i n) refl
     by_order true is = grind (arith, nat_tests, is)
     by_order false is = absurd (ne (grind (arith, nat_tests, is, h)))
 
--- a word of a row stands at its place
-at_last : (place n i : ℕ) (word : ℕ → ℕ) (cells : Cells) (b : Bool) → (i == n) ≡ b → i < suc n → (i < n → map.get (row place n word cells) (place + 8 * i) ≡ Some (word i))
-    → map.get (map.insert (row place n word cells) (place + 8 * n) (word n)) (place + 8 * i) ≡ Some (word i)
-at_last place n i word cells true is h rest =
+-- a word of a row stands at its address
+at_last : (address n i : ℕ) (word : ℕ → ℕ) (cells : Cells) (b : Bool) → (i == n) ≡ b → i < suc n
+    → (i < n → map.get (cells_from address n word cells) (address + 8 * i) ≡ Some (word i))
+    → map.get (map.insert (cells_from address n word cells) (address + 8 * n) (word n)) (address + 8 * i) ≡ Some
+    (word i)
+at_last address n i word cells true is h rest =
     let e : i ≡ n = grind (arith, nat_tests, is) in
-    subst (λ k. map.get (map.insert (row place n word cells) (place + 8 * n) (word n)) (place + 8 * k) ≡ Some (word k)) (sym e) (get_put_same (row place n word cells) (place + 8 * n) (word n))
-at_last place n i word cells false is h rest =
+    subst (λ k. map.get (map.insert (cells_from address n word cells) (address + 8 * n) (word n)) (address + 8 * k)
+    ≡ Some (word k)) (sym e) (get_put_same (cells_from address n word cells) (address + 8 * n) (word n))
+at_last address n i word cells false is h rest =
     let ne : i ≢ n = λ e. absurd (grind (arith, nat_tests, is, e)) in
-    get_put_other (row place n word cells) (place + 8 * n) (word n) (place + 8 * i) (λ e. ne (omega (arith, e))) ∙ rest (below i n h ne)
+    get_put_other (cells_from address n word cells) (address + 8 * n) (word n) (address + 8 * i)
+    (λ e. ne (omega (arith, e))) ∙ rest (below i n h ne)
 
-row_in : (place n : ℕ) (word : ℕ → ℕ) (cells : Cells) (i : ℕ) → i < n → map.get (row place n word cells) (place + 8 * i) ≡ Some (word i)
-unfolding row
-row_in place zero word cells i h = absurd (omega arith)
-row_in place (suc n) word cells i h = at_last place n i word cells (i == n) refl h (row_in place n word cells i)
+row_in : (address n : ℕ) (word : ℕ → ℕ) (cells : Cells) (i : ℕ) → i < n
+    → map.get (cells_from address n word cells) (address + 8 * i) ≡ Some (word i)
+unfolding cells_from
+row_in address zero word cells i h = absurd (omega arith)
+row_in address (suc n) word cells i h = at_last address n i word cells (i == n) refl h (row_in address n word cells i)
 
--- every other place holds what it held
-row_out : (place n : ℕ) (word : ℕ → ℕ) (cells : Cells) (q : ℕ) → ((i : ℕ) → i < n → q ≢ place + 8 * i) → map.get (row place n word cells) q ≡ map.get cells q
-unfolding row
-row_out place zero word cells q out = refl
-row_out place (suc n) word cells q out =
-    get_put_other (row place n word cells) (place + 8 * n) (word n) q (out n (omega arith)) ∙ row_out place n word cells q (λ i h. out i (omega (arith, h)))
+-- every other address holds what it held
+row_out : (address n : ℕ) (word : ℕ → ℕ) (cells : Cells) (q : ℕ) → ((i : ℕ) → i < n → q ≢ address + 8 * i)
+    → map.get (cells_from address n word cells) q ≡ map.get cells q
+unfolding cells_from
+row_out address zero word cells q out = refl
+row_out address (suc n) word cells q out =
+    get_put_other (cells_from address n word cells) (address + 8 * n) (word n) q (out n (omega arith))
+    ∙ row_out address n word cells q (λ i h. out i (omega (arith, h)))
 
 module _ (params : List Param) (inputs : List ℕ) (short : (param : ℕ) → array_words params param ≤ 32) where
   -- so do those of the arrays
-  array_out : (n : ℕ) (cells : Cells) (q : ℕ) → ((i w : ℕ) → i < n → w < array_words params i → q ≢ array_place i + 8 * w)
-      → map.get (array_rows params inputs n cells) q ≡ map.get cells q
-  unfolding array_rows
+  array_out : (n : ℕ) (cells : Cells) (q : ℕ)
+      → ((i w : ℕ) → i < n → w < array_words params i → q ≢ array_address i + 8 * w)
+      → map.get (with_arrays params inputs n cells) q ≡ map.get cells q
+  unfolding with_arrays
   array_out zero cells q out = refl
   array_out (suc n) cells q out =
-      row_out (array_place n) (array_words params n) (array_cell params inputs n) (array_rows params inputs n cells) q (λ w h. out n w (omega arith) h)
+      row_out (array_address n) (array_words params n) (array_cell params inputs n)
+      (with_arrays params inputs n cells) q (λ w h. out n w (omega arith) h)
       ∙ array_out n cells q (λ i w h. out i w (omega (arith, h)))
 
   array_last : (n i w : ℕ) (cells : Cells) (b : Bool) → (i == n) ≡ b → i < suc n → w < array_words params i
-      → (i < n → map.get (array_rows params inputs n cells) (array_place i + 8 * w) ≡ Some (array_cell params inputs i w))
-      → map.get (array_row params inputs n (array_rows params inputs n cells)) (array_place i + 8 * w) ≡ Some (array_cell params inputs i w)
+      → (i < n → map.get (with_arrays params inputs n cells) (array_address i + 8 * w) ≡ Some
+      (array_cell params inputs i w))
+      → map.get (with_array params inputs n (with_arrays params inputs n cells)) (array_address i + 8 * w) ≡ Some
+      (array_cell params inputs i w)
   array_last n i w cells true is h k rest =
       let e : n ≡ i = grind (arith, nat_tests, is) in
-      subst (λ m. map.get (array_row params inputs m (array_rows params inputs n cells)) (array_place i + 8 * w) ≡ Some (array_cell params inputs i w)) (sym e)
-      (row_in (array_place i) (array_words params i) (array_cell params inputs i) (array_rows params inputs n cells) w k)
+      subst (λ m. map.get (with_array params inputs m (with_arrays params inputs n cells)) (array_address i + 8 * w)
+      ≡ Some (array_cell params inputs i w)) (sym e)
+      (row_in (array_address i) (array_words params i) (array_cell params inputs i)
+      (with_arrays params inputs n cells) w k)
   array_last n i w cells false is h k rest =
       let ne : i ≢ n = λ e. absurd (grind (arith, nat_tests, is, e)) in
       let si : array_words params i ≤ 32 = short i in
       let sn : array_words params n ≤ 32 = short n in
       let lt : i < n = below i n h ne in
-      row_out (array_place n) (array_words params n) (array_cell params inputs n) (array_rows params inputs n cells) (array_place i + 8 * w) (λ v o e. absurd (omega (arith, si, sn, lt, k, o, e)))
+      row_out (array_address n) (array_words params n) (array_cell params inputs n) (with_arrays params inputs n cells)
+      (array_address i + 8 * w) (λ v o e. absurd (omega (arith, si, sn, lt, k, o, e)))
       ∙ rest lt
 
-  array_in : (n : ℕ) (cells : Cells) (i w : ℕ) → i < n → w < array_words params i → map.get (array_rows params inputs n cells) (array_place i + 8 * w) ≡ Some (array_cell params inputs i w)
-  unfolding array_rows
+  array_in : (n : ℕ) (cells : Cells) (i w : ℕ) → i < n → w < array_words params i
+      → map.get (with_arrays params inputs n cells) (array_address i + 8 * w) ≡ Some (array_cell params inputs i w)
+  unfolding with_arrays
   array_in zero cells i w h k = absurd (omega arith)
   array_in (suc n) cells i w h k = array_last n i w cells (i == n) refl h k (λ lt. array_in n cells i w lt k)
 
@@ -126,31 +147,37 @@ choose : {A : Type 0} (b : Bool) (x y z : A) → (b ≡ true → z ≡ x) → (b
 choose true x y z f g = f refl
 choose false x y z f g = g refl
 
-module _ (params : List Param) (frame : ℕ) (inputs : List ℕ) (ok : AreParams params) (most : frame ≤ 32816) (eights : frame % 8 ≡ 0) where
-  -- a place outside the stack holds what the arrays put there
-  off_stack : (q : ℕ) → ((i : ℕ) → i < frame / 8 + 1 → q ≢ stack_place - frame + 8 * i) → map.get (stated_cells params frame inputs) q ≡ map.get (array_rows params inputs (length params) map.empty) q
-  off_stack q out = row_out (stack_place - frame) (frame / 8 + 1) (λ _. filling) (array_rows params inputs (length params) map.empty) q out
+module _ (params : List Param) (frame : ℕ) (inputs : List ℕ) (ok : AreParams params) (most : frame ≤ 32816)
+    (eights : frame % 8 ≡ 0) where
+  -- an address outside the stack holds what the arrays put there
+  off_stack : (q : ℕ) → ((i : ℕ) → i < frame / 8 + 1 → q ≢ stack_address - frame + 8 * i)
+      → map.get (stated_cells params frame inputs) q ≡ map.get (with_arrays params inputs (length params) map.empty) q
+  off_stack q out = row_out (stack_address - frame) (frame / 8 + 1) (λ _. filling)
+      (with_arrays params inputs (length params) map.empty) q out
 
   -- and nothing where it is in no array
-  off_arrays : (q : ℕ) → ((i w : ℕ) → i < length params → w < array_words params i → q ≢ array_place i + 8 * w) → map.get (array_rows params inputs (length params) map.empty) q ≡ None
+  off_arrays : (q : ℕ) → ((i w : ℕ) → i < length params → w < array_words params i → q ≢ array_address i + 8 * w)
+      → map.get (with_arrays params inputs (length params) map.empty) q ≡ None
   off_arrays q out = array_out params inputs ok.short (length params) map.empty q out ∙ map.get-empty nat_cmp q
 
   in_stack : (q : ℕ) → q % 8 ≡ 0 → is_stack frame q ≡ true → map.get (stated_cells params frame inputs) q ≡ Some filling
   in_stack q eight inside =
-      let from : stack_place - frame ≤ q = grind (arith, nat_tests, inside) in
-      let to : q ≤ stack_place = grind (arith, nat_tests, inside) in
-      let place : stack_place - frame + 8 * ((q - (stack_place - frame)) / 8) ≡ q = omega (arith, eight, from, to, most, eights) in
-      let within : (q - (stack_place - frame)) / 8 < frame / 8 + 1 = omega (arith, eight, from, to, most, eights) in
-      subst (λ p. map.get (stated_cells params frame inputs) p ≡ Some filling) place
-      (row_in (stack_place - frame) (frame / 8 + 1) (λ _. filling) (array_rows params inputs (length params) map.empty) ((q - (stack_place - frame)) / 8) within)
+      let from : stack_address - frame ≤ q = grind (arith, nat_tests, inside) in
+      let to : q ≤ stack_address = grind (arith, nat_tests, inside) in
+      let address : stack_address - frame + 8 * ((q - (stack_address - frame)) / 8) ≡ q =
+      omega (arith, eight, from, to, most, eights) in
+      let within : (q - (stack_address - frame)) / 8 < frame / 8 + 1 = omega (arith, eight, from, to, most, eights) in
+      subst (λ p. map.get (stated_cells params frame inputs) p ≡ Some filling) address
+      (row_in (stack_address - frame) (frame / 8 + 1) (λ _. filling)
+      (with_arrays params inputs (length params) map.empty) ((q - (stack_address - frame)) / 8) within)
 
-  not_stack : (q i : ℕ) → is_stack frame q ≡ false → i < frame / 8 + 1 → q ≢ stack_place - frame + 8 * i
+  not_stack : (q i : ℕ) → is_stack frame q ≡ false → i < frame / 8 + 1 → q ≢ stack_address - frame + 8 * i
   not_stack q i out h e =
-      let from : stack_place - frame ≤ q = omega (arith, e) in
-      let to : q ≤ stack_place = omega (arith, e, h, most, eights) in
+      let from : stack_address - frame ≤ q = omega (arith, e) in
+      let to : q ≤ stack_address = omega (arith, e, h, most, eights) in
       absurd (grind (arith, nat_tests, out, from, to))
 
-  -- each place holds what is stated
+  -- each address holds what is stated
   pub cells_stated : (q : ℕ) → map.get (stated_cells params frame inputs) q ≡ stated_cell params frame inputs q
   cells_stated q =
       choose (q % 8 == 0) _ _ _
@@ -163,23 +190,27 @@ module _ (params : List Param) (frame : ℕ) (inputs : List ℕ) (ok : AreParams
       choose (nat_lt (q % 65536 / 8) (array_words params (q / 65536 - 1))) _ _ _
       (λ lt. let within : q % 65536 / 8 < array_words params (q / 65536 - 1) = grind (arith, nat_tests, lt) in
       let few : q / 65536 - 1 < length params = array_below params (q / 65536 - 1) (q % 65536 / 8) within in
-      let place : array_place (q / 65536 - 1) + 8 * (q % 65536 / 8) ≡ q = omega (arith, eight, from) in
-      subst (λ p. map.get (array_rows params inputs (length params) map.empty) p ≡ Some (array_cell params inputs (q / 65536 - 1) (q % 65536 / 8))) place
+      let address : array_address (q / 65536 - 1) + 8 * (q % 65536 / 8) ≡ q = omega (arith, eight, from) in
+      subst (λ p. map.get (with_arrays params inputs (length params) map.empty) p ≡ Some
+      (array_cell params inputs (q / 65536 - 1) (q % 65536 / 8))) address
       (array_in params inputs ok.short (length params) map.empty (q / 65536 - 1) (q % 65536 / 8) few within))
       (λ ge. off_arrays q (λ i w h k e.
       let s : array_words params i ≤ 32 = ok.short i in
       let six : length params ≤ 6 = ok.six in
       let param : q / 65536 - 1 ≡ i = omega (arith, h, k, s, six, e) in
       let word : q % 65536 / 8 ≡ w = omega (arith, h, k, s, six, e) in
-      let kk : q % 65536 / 8 < array_words params (q / 65536 - 1) = subst (λ p. q % 65536 / 8 < array_words params p) (sym param) (omega (arith, word, k)) in
+      let kk : q % 65536 / 8 < array_words params (q / 65536 - 1) =
+      subst (λ p. q % 65536 / 8 < array_words params p) (sym param) (omega (arith, word, k)) in
       absurd (grind (arith, nat_tests, ge, kk)))))
-      (λ gt. off_arrays q (λ i w h k e. let under : q < 65536 = grind (arith, nat_tests, gt) in absurd (omega (arith, under, e))))))
+      (λ gt. off_arrays q (λ i w h k e. let under : q < 65536 = grind (arith, nat_tests, gt) in
+      absurd (omega (arith, under, e))))))
       (λ other. let odd : q % 8 ≢ 0 = λ e. absurd (grind (arith, nat_tests, other, e)) in
       off_stack q (λ i h e. absurd (odd (omega (arith, e, most, eights))))
       ∙ off_arrays q (λ i w h k e. absurd (odd (omega (arith, e)))))
 
 -- a register by its number
-reg_stated : (params : List Param) (inputs : List ℕ) (r : Reg) → slice_index (stated_regs params inputs) (number_of r) ≡ stated_reg params inputs r
+reg_stated : (params : List Param) (inputs : List ℕ) (r : Reg)
+    → slice_index (stated_regs params inputs) (number_of r) ≡ stated_reg params inputs r
 reg_stated params inputs Rax = refl
 reg_stated params inputs Rcx = refl
 reg_stated params inputs Rdx = refl
@@ -198,7 +229,8 @@ reg_stated params inputs R14 = refl
 reg_stated params inputs R15 = refl
 
 -- the state with these registers and cells is the stated one
-pub is_stated : (program : Source) (lines : List Line) (inputs regs : List ℕ) (cells : Cells) (frame : ℕ) → AreParams program.params → frame ≡ frame_of lines
+pub is_stated : (program : Source) (lines : List Line) (inputs regs : List ℕ) (cells : Cells) (frame : ℕ)
+    → AreParams program.params → frame ≡ frame_of lines
     → regs ≡ stated_regs program.params inputs → cells ≡ stated_cells program.params frame inputs
     → IsStated program lines inputs (record { regs = regs; cf = None; of = None; zf = None; cells = cells })
 is_stated program lines inputs regs cells frame ok is_frame are_regs are_cells = record {

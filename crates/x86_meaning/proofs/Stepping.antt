@@ -1,5 +1,6 @@
 -- How to go through a run line by line: what a run needs of its next line.
-use Rattle.std.proofs.Common.{◌≡◌, ℕ, ◌+◌, Bool, true, false, List, [], ◌∷◌, Option, Some, None, IsSome, MatchOption, MatchBool, option_map, option_and_then, if◌then◌else◌, refl, sym, ap, ◌∙◌, subst}
+use Rattle.std.proofs.Common.{◌≡◌, ℕ, ◌+◌, Bool, true, false, List, [], ◌∷◌, Option, Some, None, IsSome, MatchOption}
+use Rattle.std.proofs.Common.{MatchBool, option_map, option_and_then, if◌then◌else◌, refl, sym, ap, ◌∙◌, subst}
 use Rattle.std.specs.Option.{option_map_or}
 use Rattle.std.specs.FinMap as map
 use Rattle.x86_instr.specs.declared.line.Line.{Line}
@@ -10,18 +11,22 @@ use Rattle.x86_meaning.specs.Runs.{Runs, Ended, Stuck, run_from}
 
 -- ---- one step
 
--- where the place is in the memory, a store leads to the state with the word there
-pub stored_there : (s : State) (place word : ℕ) → IsSome (map.get s.cells place) → stored place word s ≡ Some (record s { cells = map.insert s.cells place word })
-stored_there s place word there = ap (λ b. if b then Some (record s { cells = map.insert s.cells place word }) else None) there
+-- where the address is in the memory, a store leads to the state with the word there
+pub stored_there : (s : State) (address word : ℕ) → IsSome (map.get s.cells address)
+    → stored address word s ≡ Some (record s { cells = map.insert s.cells address word })
+stored_there s address word there = ap (λ b. if b then Some (record s { cells = map.insert s.cells address word }) else
+    None) there
 
--- a step that stores to a place under another name
-pub on_store : (s : State) (place place' word : ℕ) (G : State → Type 0) → place ≡ place' → IsSome (map.get s.cells place')
-    → G (record s { cells = map.insert s.cells place' word }) → MatchOption (stored place word s) ⊥ G
-on_store s place place' word G e there g =
-    subst (λ o. MatchOption o ⊥ G) (sym (ap (λ p. stored p word s) e ∙ stored_there s place' word there)) g
+-- a step that stores to an address under another name
+pub on_store : (s : State) (address address' word : ℕ) (G : State → Type 0) → address ≡ address'
+    → IsSome (map.get s.cells address')
+    → G (record s { cells = map.insert s.cells address' word }) → MatchOption (stored address word s) ⊥ G
+on_store s address address' word G e there g =
+    subst (λ o. MatchOption o ⊥ G) (sym (ap (λ p. stored p word s) e ∙ stored_there s address' word there)) g
 
 -- a step that reads a word, as `mov` does
-pub on_operand : (o : Option ℕ) (word : ℕ) (f : ℕ → State) (G : State → Type 0) → o ≡ Some word → G (f word) → MatchOption (option_map f o) ⊥ G
+pub on_operand : (o : Option ℕ) (word : ℕ) (f : ℕ → State) (G : State → Type 0) → o ≡ Some word → G (f word)
+    → MatchOption (option_map f o) ⊥ G
 on_operand o word f G e g = subst (λ x. MatchOption (option_map f x) ⊥ G) (sym e) g
 
 -- a step that reads a word and may be stuck behind it
@@ -29,23 +34,29 @@ pub on_operand_then : (o : Option ℕ) (word : ℕ) (f : ℕ → Option State) (
     → MatchOption (f word) ⊥ G → MatchOption (option_and_then f o) ⊥ G
 on_operand_then o word f G e g = subst (λ x. MatchOption (option_and_then f x) ⊥ G) (sym e) g
 
--- a word that is loaded from a place under another name
-pub loaded_at : (s : State) (place place' word : ℕ) → place ≡ place' → map.get s.cells place' ≡ Some word → loaded s place ≡ Some word
-loaded_at s place place' word e held = ap (loaded s) e ∙ held
+-- a word that is loaded from an address under another name
+pub loaded_at : (s : State) (address address' word : ℕ) → address ≡ address' → map.get s.cells address' ≡ Some word
+    → loaded s address ≡ Some word
+loaded_at s address address' word e held = ap (loaded s) e ∙ held
 
--- a step that loads from a place under another name
-pub on_load : (s : State) (place place' word : ℕ) (f : ℕ → State) (G : State → Type 0) → place ≡ place' → map.get s.cells place' ≡ Some word
-    → G (f word) → MatchOption (option_map f (loaded s place)) ⊥ G
-on_load s place place' word f G e held g = on_operand (loaded s place) word f G (loaded_at s place place' word e held) g
+-- a step that loads from an address under another name
+pub on_load : (s : State) (address address' word : ℕ) (f : ℕ → State) (G : State → Type 0) → address ≡ address'
+    → map.get s.cells address' ≡ Some word
+    → G (f word) → MatchOption (option_map f (loaded s address)) ⊥ G
+on_load s address address' word f G e held g =
+    on_operand (loaded s address) word f G (loaded_at s address address' word e held) g
 
 -- ---- one line
 
 -- a run whose first line is `ret` ends
-pub on_ret : (P Q : State → Type 0) (line : Line) (lines : List Line) (s : State) → is_ret line.instr ≡ true → Q s → Runs P Q (line ∷ lines) s
-on_ret P Q line lines s e q = subst (λ b. MatchBool b (Q s) (P s × MatchOption (step_of line.instr s) ⊥ (λ t. Runs P Q lines t))) (sym e) q
+pub on_ret : (P Q : State → Type 0) (line : Line) (lines : List Line) (s : State) → is_ret line.instr ≡ true → Q s
+    → Runs P Q (line ∷ lines) s
+on_ret P Q line lines s e q = subst (λ b. MatchBool b (Q s)
+    (P s × MatchOption (step_of line.instr s) ⊥ (λ t. Runs P Q lines t))) (sym e) q
 
 -- a run whose first line is another goes on behind its step
-pub on_line : (P Q : State → Type 0) (line : Line) (lines : List Line) (s t : State) → is_ret line.instr ≡ false → P s → step_of line.instr s ≡ Some t
+pub on_line : (P Q : State → Type 0) (line : Line) (lines : List Line) (s t : State) → is_ret line.instr ≡ false → P s
+    → step_of line.instr s ≡ Some t
     → Runs P Q lines t → Runs P Q (line ∷ lines) s
 on_line P Q line lines s t e p step rest =
     subst (λ b. MatchBool b (Q s) (P s × MatchOption (step_of line.instr s) ⊥ (λ u. Runs P Q lines u))) (sym e)
@@ -65,7 +76,8 @@ step_ends P Q lines number s (Some t) later h = later t h
 line_ends : (P Q : State → Type 0) (lines : List Line) (number : ℕ) (s : State) (o : Option State) (b : Bool)
     → ((t : State) → Runs P Q lines t → (u : State) × (run_from (number + 1) lines t ≡ Ended u) × Q u)
     → MatchBool b (Q s) (P s × MatchOption o ⊥ (λ t. Runs P Q lines t))
-    → (u : State) × ((if b then Ended s else option_map_or (λ t. run_from (number + 1) lines t) o (Stuck number s)) ≡ Ended u) × Q u
+    → (u : State) × ((if b then Ended s else option_map_or (λ t. run_from (number + 1) lines t) o (Stuck number s))
+    ≡ Ended u) × Q u
 line_ends P Q lines number s o true later q = (s, refl, q)
 line_ends P Q lines number s o false later h = step_ends P Q lines number s o later h.1
 

@@ -14,17 +14,17 @@ use Rattle.x86_meaning.specs.declared.state.State.{State}
 use Rattle.x86_meaning.specs.Machine.{Cells, reg}
 use Rattle.x86_meaning.specs.Runs.{Runs}
 use Rattle.x86_instr.specs.Frame.{frame_of}
-use Rattle.x86_meaning.specs.Start.{Array, Frame, output_words, area_words, place_of, IsStart}
+use Rattle.x86_meaning.specs.Start.{Array, Frame, output_words, area_words, address_of, IsStart}
 
--- the place is in none of the output arrays, and not in the frame
-pub record IsOutside (params : List Param) (frame : ℕ) (s : State) (place : ℕ) : Type 0 where
-  pub outputs : (param word : ℕ) → word < output_words params param → place ≢ place_of s frame (Array param) word
-  pub under_stack : (word : ℕ) → word < area_words params frame Frame → place ≢ place_of s frame Frame word
+-- the address is in none of the output arrays, and not in the frame
+pub record IsOutside (params : List Param) (frame : ℕ) (s : State) (address : ℕ) : Type 0 where
+  pub outputs : (param word : ℕ) → word < output_words params param → address ≢ address_of s frame (Array param) word
+  pub under_stack : (word : ℕ) → word < area_words params frame Frame → address ≢ address_of s frame Frame word
 
 -- the memory has the cells of the start state, and those outside hold what they held there
 pub record Keeps (params : List Param) (frame : ℕ) (s : State) (cells : Cells) : Type 0 where
-  pub places : (place : ℕ) → is_some (map.get cells place) ≡ is_some (map.get s.cells place)
-  pub others : (place : ℕ) → IsOutside params frame s place → map.get cells place ≡ map.get s.cells place
+  pub addresses : (address : ℕ) → is_some (map.get cells address) ≡ is_some (map.get s.cells address)
+  pub others : (address : ℕ) → IsOutside params frame s address → map.get cells address ≡ map.get s.cells address
 
 -- the registers that a function gives back as it found them
 abbrev pub preserved : List Reg
@@ -32,11 +32,13 @@ preserved = Rbx ∷ Rbp ∷ R12 ∷ R13 ∷ R14 ∷ R15 ∷ Rsp ∷ []
 
 -- the last state t of a run from the start state s
 pub record Returns (program : Source) (frame : ℕ) (inputs : List ℕ) (s t : State) : Type 0 where
-  pub outputs : (param word : ℕ) → word < output_words program.params param → map.get t.cells (place_of s frame (Array param) word) ≡ Some (output_word program inputs param word)
+  pub outputs : (param word : ℕ) → word < output_words program.params param
+      → map.get t.cells (address_of s frame (Array param) word) ≡ Some (output_word program inputs param word)
   pub registers : AllByRecursion (λ r. reg t r ≡ reg s r) preserved
   pub keeps : Keeps program.params frame s t.cells
 
 -- the listing with these lines is correct for the program
 pub record IsCorrect (program : Source) (lines : List Line) : Type 0 where
   pub runs : (inputs : List ℕ) (s : State) → IsStart program lines inputs s
-      → Runs (λ t. Keeps program.params (frame_of lines) s t.cells) (λ t. Returns program (frame_of lines) inputs s t) lines s
+      → Runs (λ t. Keeps program.params (frame_of lines) s t.cells)
+      (λ t. Returns program (frame_of lines) inputs s t) lines s

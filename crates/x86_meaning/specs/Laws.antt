@@ -11,7 +11,8 @@ use Rattle.x86_meaning.specs.Correct.{Returns}
 
 -- the run from the start state s, as it is computed, ends with what the program asks for
 abbrev pub EndsReturning : Source → List Line → List ℕ → State → Type 0
-EndsReturning program lines inputs s = (t : State) × (run_from 1 lines s ≡ Ended t) × Returns program (frame_of lines) inputs s t
+EndsReturning program lines inputs s = (t : State) × (run_from 1 lines s ≡ Ended t)
+    × Returns program (frame_of lines) inputs s t
 
 -- the exact sum, with signs, of two words and a carry
 abbrev pub signed_sum : ℕ → ℕ → ℕ → ℤ

@@ -3,7 +3,9 @@
 -- undefined flag may have any value, so reading one is stuck, and so is an access outside the memory. Flags
 -- that the manual defines only for some operands are undefined here for all: those of IMUL, and the overflow
 -- flag of shifts.
-use Rattle.std.specs.Prelude.{◌≡◌, ℕ, ◌+◌, ◌-◌, ◌*◌, ◌/◌, ◌%◌, ◌^◌, ◌<◌, Bool, false, not, ◌&&◌, ◌==◌, nat_lt, nat_le, length, Option, Some, None, is_some, IsSome, IfSome, slice_index, slice_set, if◌then◌else◌, option_map, option_and_then, bit_and, bit_or, bit_xor}
+use Rattle.std.specs.Prelude.{◌≡◌, ℕ, ◌+◌, ◌-◌, ◌*◌, ◌/◌, ◌%◌, ◌^◌, ◌<◌, Bool, false, not, ◌&&◌, ◌==◌, nat_lt, nat_le}
+use Rattle.std.specs.Prelude.{length, Option, Some, None, is_some, IsSome, IfSome, slice_index, slice_set}
+use Rattle.std.specs.Prelude.{if◌then◌else◌, option_map, option_and_then, bit_and, bit_or, bit_xor}
 use Rattle.std.specs.Int.{cast_unsigned, w64}
 use Rattle.std.specs.Ordering.{nat_cmp}
 use Rattle.std.specs.FinMap as map
@@ -28,7 +30,7 @@ use Rattle.x86_meaning.specs.declared.state.State.{State}
 
 -- ---- states: sixteen registers by number; three flags, where None is undefined; the memory
 
--- a finite map from places to the words there
+-- a finite map from addresses to the words there
 abbrev pub Cells : Type 0
 Cells = map.FinMap nat_cmp ℕ
 
@@ -42,8 +44,8 @@ IsWord n = n < 2 ^ 64
 pub record IsState (s : State) : Type 0 where
   pub sixteen : length s.regs ≡ 16
   pub registers : (r : Reg) → IsWord (reg s r)
-  pub places : (place : ℕ) → IsSome (map.get s.cells place) → IsWord place × (place % 8 ≡ 0)
-  pub words : (place : ℕ) → IfSome (map.get s.cells place) IsWord
+  pub addresses : (address : ℕ) → IsSome (map.get s.cells address) → IsWord address × (address % 8 ≡ 0)
+  pub words : (address : ℕ) → IfSome (map.get s.cells address) IsWord
 
 -- ---- reads and writes
 
@@ -54,34 +56,35 @@ abbrev pub index_word : State → Option Index → ℕ
 index_word s None = 0
 index_word s (Some index) = reg s index.reg * index.scale
 
-abbrev pub address : State → Mem → ℕ
-address s mem = (reg s mem.base + index_word s mem.index + cast_unsigned w64 mem.disp) % 2 ^ 64
+abbrev pub effective_address : State → Mem → ℕ
+effective_address s mem = (reg s mem.base + index_word s mem.index + cast_unsigned w64 mem.disp) % 2 ^ 64
 
--- the word at a place of the memory
+-- the word at an address of the memory
 abbrev pub loaded : State → ℕ → Option ℕ
-loaded s place = map.get s.cells place
+loaded s address = map.get s.cells address
 
--- the state with another word at a place of the memory
+-- the state with another word at an address of the memory
 abbrev pub stored : ℕ → ℕ → State → Option State
-stored place word s = if is_some (map.get s.cells place) then Some (record s { cells = map.insert s.cells place word }) else None
+stored address word s = if is_some (map.get s.cells address) then
+    Some (record s { cells = map.insert s.cells address word }) else None
 
 abbrev pub rm_word : State → Rm → Option ℕ
 rm_word s (rms.Reg r) = Some (reg s r)
-rm_word s (rms.Mem mem) = loaded s (address s mem)
+rm_word s (rms.Mem mem) = loaded s (effective_address s mem)
 
 abbrev pub src_word : State → Src → Option ℕ
 src_word s (srcs.Reg r) = Some (reg s r)
-src_word s (srcs.Mem mem) = loaded s (address s mem)
+src_word s (srcs.Mem mem) = loaded s (effective_address s mem)
 src_word s (srcs.Imm n) = Some (cast_unsigned w64 n)
 
 -- whether a condition holds, where its flag is defined
-abbrev pub holds : State → Cond → Option Bool
-holds s conds.O = s.of
-holds s conds.No = option_map (λ b. not b) s.of
-holds s conds.C = s.cf
-holds s conds.Nc = option_map (λ b. not b) s.cf
-holds s conds.Z = s.zf
-holds s conds.Nz = option_map (λ b. not b) s.zf
+abbrev pub condition_holds : State → Cond → Option Bool
+condition_holds s conds.O = s.of
+condition_holds s conds.No = option_map (λ b. not b) s.of
+condition_holds s conds.C = s.cf
+condition_holds s conds.Nc = option_map (λ b. not b) s.cf
+condition_holds s conds.Z = s.zf
+condition_holds s conds.Nz = option_map (λ b. not b) s.zf
 
 -- ---- arithmetic
 
@@ -94,8 +97,8 @@ has_bit word k = word / 2 ^ k % 2 == 1
 
 -- A word read as a signed number is `raised word - 2^63`. So where a sum or a difference of such numbers
 -- is `n - 2^64`, it fits 64 bits with its sign exactly where `n` lies from 2^63 to 3 * 2^63 - 1.
-abbrev pub raised : ℕ → ℕ
-raised word = (word + 2 ^ 63) % 2 ^ 64
+abbrev pub biased : ℕ → ℕ
+biased word = (word + 2 ^ 63) % 2 ^ 64
 
 abbrev pub overflows : ℕ → Bool
 overflows n = not (nat_le (2 ^ 63) n && nat_lt n (3 * 2 ^ 63))
@@ -105,7 +108,7 @@ abbrev pub sum_into : Reg → ℕ → ℕ → ℕ → State → State
 sum_into dst d b carry s = let r = (d + b + carry) % 2 ^ 64 in record {
   regs = slice_set s.regs (number_of dst) r;
   cf = Some (nat_le (2 ^ 64) (d + b + carry));
-  of = Some (overflows (raised d + raised b + carry));
+  of = Some (overflows (biased d + biased b + carry));
   zf = Some (r == 0);
   cells = s.cells;
 }
@@ -115,7 +118,7 @@ abbrev pub difference_into : Reg → ℕ → ℕ → ℕ → State → State
 difference_into dst d b borrow s = let r = (d + 2 ^ 64 - (b + borrow)) % 2 ^ 64 in record {
   regs = slice_set s.regs (number_of dst) r;
   cf = Some (nat_lt d (b + borrow));
-  of = Some (overflows (raised d + 2 ^ 64 - (raised b + borrow)));
+  of = Some (overflows (biased d + 2 ^ 64 - (biased b + borrow)));
   zf = Some (r == 0);
   cells = s.cells;
 }
@@ -125,7 +128,7 @@ abbrev pub compared : ℕ → ℕ → State → State
 compared d b s = record {
   regs = s.regs;
   cf = Some (nat_lt d b);
-  of = Some (overflows (raised d + 2 ^ 64 - raised b));
+  of = Some (overflows (biased d + 2 ^ 64 - biased b));
   zf = Some ((d + 2 ^ 64 - b) % 2 ^ 64 == 0);
   cells = s.cells;
 }
@@ -136,11 +139,23 @@ with_logic_flags r s = record { regs = s.regs; cf = Some false; of = Some false;
 
 -- a register and the flags of a shift by a count from 1 to 63, given the bit shifted out last
 abbrev pub shift_into : Reg → ℕ → Bool → State → State
-shift_into dst r out s = record { regs = slice_set s.regs (number_of dst) r; cf = Some out; of = None; zf = Some (r == 0); cells = s.cells }
+shift_into dst r out s = record {
+  regs = slice_set s.regs (number_of dst) r;
+  cf = Some out;
+  of = None;
+  zf = Some (r == 0);
+  cells = s.cells;
+}
 
 -- a register, with the flags that INC and DEC write: all but the carry
 abbrev pub count_into : Reg → ℕ → Bool → State → State
-count_into dst r overflow s = record { regs = slice_set s.regs (number_of dst) r; cf = s.cf; of = Some overflow; zf = Some (r == 0); cells = s.cells }
+count_into dst r overflow s = record {
+  regs = slice_set s.regs (number_of dst) r;
+  cf = s.cf;
+  of = Some overflow;
+  zf = Some (r == 0);
+  cells = s.cells;
+}
 
 -- ---- rows that several instructions share
 
@@ -204,7 +219,13 @@ mul_into n s = let high = not (n / 2 ^ 64 == 0) in record {
 
 -- IMUL with two operands
 abbrev pub imul_into : Reg → ℕ → State → State
-imul_into dst n s = record { regs = slice_set s.regs (number_of dst) (n % 2 ^ 64); cf = None; of = None; zf = None; cells = s.cells }
+imul_into dst n s = record {
+  regs = slice_set s.regs (number_of dst) (n % 2 ^ 64);
+  cf = None;
+  of = None;
+  zf = None;
+  cells = s.cells;
+}
 
 -- SETcc: the low byte alone is written
 abbrev pub set_into : Reg → Bool → State → State
@@ -226,23 +247,29 @@ funnel low high k = low / 2 ^ k + high * 2 ^ (64 - k) % 2 ^ 64
 abbrev pub step_of : Instr → State → Option State
 step_of (instrs.Mov dst src) s = option_map (λ word. with_reg dst word s) (rm_word s src)
 step_of (instrs.MovImm dst imm) s = Some (with_reg dst (imm % 2 ^ 64) s)
-step_of (instrs.Store mem src) s = stored (address s mem) (reg s src) s
-step_of (instrs.Lea dst mem) s = Some (with_reg dst (address s mem) s)
+step_of (instrs.Store mem src) s = stored (effective_address s mem) (reg s src) s
+step_of (instrs.Lea dst mem) s = Some (with_reg dst (effective_address s mem) s)
 step_of (instrs.Bin op dst src) s = option_and_then (λ word. bin_into op dst word s) (src_word s src)
 step_of (instrs.Test a b) s = Some (with_logic_flags (bit_and (reg s a) (reg s b)) s)
 step_of (instrs.Un op dst) s = Some (un_into op dst (reg s dst) s)
-step_of (instrs.Adcx dst src) s = option_and_then (λ word. option_map (λ carry. adcx_into dst word (bit carry) s) s.cf) (rm_word s src)
-step_of (instrs.Adox dst src) s = option_and_then (λ word. option_map (λ carry. adox_into dst word (bit carry) s) s.of) (rm_word s src)
+step_of (instrs.Adcx dst src) s = option_and_then (λ word. option_map (λ carry. adcx_into dst word (bit carry) s) s.cf)
+    (rm_word s src)
+step_of (instrs.Adox dst src) s = option_and_then (λ word. option_map (λ carry. adox_into dst word (bit carry) s) s.of)
+    (rm_word s src)
 step_of (instrs.Mulx hi lo src) s = option_map (λ word. mulx_into hi lo (reg s Rdx * word) s) (rm_word s src)
 step_of (instrs.Mul src) s = option_map (λ word. mul_into (reg s Rax * word) s) (rm_word s src)
 step_of (instrs.Imul dst src) s = option_map (λ word. imul_into dst (reg s dst * word) s) (rm_word s src)
 step_of (instrs.Shl dst by) s = Some (shift_into dst (reg s dst * 2 ^ by % 2 ^ 64) (has_bit (reg s dst) (64 - by)) s)
 step_of (instrs.Shr dst by) s = Some (shift_into dst (reg s dst / 2 ^ by) (has_bit (reg s dst) (by - 1)) s)
-step_of (instrs.Shrd dst src by) s = Some (shift_into dst (funnel (reg s dst) (reg s src) by) (has_bit (reg s dst) (by - 1)) s)
-step_of (instrs.Shlx dst src count) s = option_map (λ word. with_reg dst (word * 2 ^ (reg s count % 64) % 2 ^ 64) s) (rm_word s src)
-step_of (instrs.Shrx dst src count) s = option_map (λ word. with_reg dst (word / 2 ^ (reg s count % 64)) s) (rm_word s src)
-step_of (instrs.Set cond dst) s = option_map (λ b. set_into dst b s) (holds s cond)
+step_of (instrs.Shrd dst src by) s = Some
+    (shift_into dst (funnel (reg s dst) (reg s src) by) (has_bit (reg s dst) (by - 1)) s)
+step_of (instrs.Shlx dst src count) s = option_map (λ word. with_reg dst (word * 2 ^ (reg s count % 64) % 2 ^ 64) s)
+    (rm_word s src)
+step_of (instrs.Shrx dst src count) s = option_map (λ word. with_reg dst (word / 2 ^ (reg s count % 64)) s)
+    (rm_word s src)
+step_of (instrs.Set cond dst) s = option_map (λ b. set_into dst b s) (condition_holds s cond)
 step_of (instrs.Movzx dst src) s = Some (with_reg dst (reg s src % 256) s)
-step_of (instrs.Cmov cond dst src) s = option_and_then (λ word. option_map (λ b. cmov_into dst word b s) (holds s cond)) (rm_word s src)
+step_of (instrs.Cmov cond dst src) s = option_and_then
+    (λ word. option_map (λ b. cmov_into dst word b s) (condition_holds s cond)) (rm_word s src)
 step_of instrs.Clc s = Some (record s { cf = Some false })
 step_of instrs.Ret s = Some s

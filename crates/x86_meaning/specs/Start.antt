@@ -1,6 +1,7 @@
 -- The states in which a function may start (System V AMD64 psABI, sections 3.2.2 and 3.2.3: the stack
 -- frame, and parameter passing), with its parameters in registers and their arrays in the memory.
-use Rattle.std.specs.Prelude.{◌≡◌, ◌≢◌, ℕ, ◌+◌, ◌-◌, ◌*◌, ◌/◌, ◌%◌, ◌^◌, ◌<◌, ◌≤◌, Bool, true, false, not, List, [], ◌∷◌, length, Some, slice_get, slice_index_or, if◌then◌else◌, IsTrue, IsSome}
+use Rattle.std.specs.Prelude.{◌≡◌, ◌≢◌, ℕ, ◌+◌, ◌-◌, ◌*◌, ◌/◌, ◌%◌, ◌^◌, ◌<◌, ◌≤◌, Bool, true, false, not, List, []}
+use Rattle.std.specs.Prelude.{◌∷◌, length, Some, slice_get, slice_index_or, if◌then◌else◌, IsTrue, IsSome}
 use Rattle.std.specs.Option.{option_map_or}
 use Rattle.std.specs.FinMap as map
 use Rattle.word_program.specs.declared.parameter.Param.{Param}
@@ -14,7 +15,7 @@ use Rattle.x86_instr.specs.Frame.{frame_of}
 use Rattle.x86_meaning.specs.declared.state.State.{State}
 use Rattle.x86_meaning.specs.Machine.{IsState, reg}
 
--- ---- the places of arrays and stack
+-- ---- the addresses of arrays and stack
 
 -- the registers that pass the parameters, in order
 abbrev pub param_regs : List Reg
@@ -49,11 +50,11 @@ area_words params frame (Array param) = array_words params param
 area_words params frame Frame = frame / 8
 area_words params frame Return = 1
 
--- the place of a word of an area, in the state at the start
-abbrev pub place_of : State → ℕ → Area → ℕ → ℕ
-place_of s frame (Array param) word = reg s (param_reg param) + 8 * word
-place_of s frame Frame word = reg s Rsp - frame + 8 * word
-place_of s frame Return word = reg s Rsp + 8 * word
+-- the address of a word of an area, in the state at the start
+abbrev pub address_of : State → ℕ → Area → ℕ → ℕ
+address_of s frame (Array param) word = reg s (param_reg param) + 8 * word
+address_of s frame Frame word = reg s Rsp - frame + 8 * word
+address_of s frame Return word = reg s Rsp + 8 * word
 
 -- an area that shares no cell with any other: an output array, the frame, the return cell
 abbrev pub is_apart : List Param → Area → Bool
@@ -64,7 +65,8 @@ is_apart params Return = true
 -- the two areas share no cell
 abbrev pub AreApart : State → List Param → ℕ → Area → Area → Type 0
 AreApart s params frame a b =
-    (i j : ℕ) → i < area_words params frame a → j < area_words params frame b → place_of s frame a i ≢ place_of s frame b j
+    (i j : ℕ) → i < area_words params frame a → j < area_words params frame b
+    → address_of s frame a i ≢ address_of s frame b j
 
 -- ---- the start
 
@@ -75,17 +77,22 @@ pub record IsStart (program : Source) (lines : List Line) (inputs : List ℕ) (s
   -- as many inputs as the program has, each within its bounds
   pub inputs_within : AreWithin inputs (input_bounds program.params)
   -- the arrays' words, the frame and the return cell are in the memory, which may have more
-  pub there : (area : Area) (word : ℕ) → word < area_words program.params (frame_of lines) area → IsSome (map.get s.cells (place_of s (frame_of lines) area word))
+  pub there : (area : Area) (word : ℕ) → word < area_words program.params (frame_of lines) area
+      → IsSome (map.get s.cells (address_of s (frame_of lines) area word))
   -- an array begins at a multiple of 8, and does not pass the end of the address space
   pub aligned : (param : ℕ) → 0 < array_words program.params param → reg s (param_reg param) % 8 ≡ 0
-  pub ends : (param : ℕ) → 0 < array_words program.params param → reg s (param_reg param) + 8 * array_words program.params param ≤ 2 ^ 64
+  pub ends : (param : ℕ) → 0 < array_words program.params param
+      → reg s (param_reg param) + 8 * array_words program.params param ≤ 2 ^ 64
   -- nor does the frame with the return cell
   pub frame_begins : frame_of lines ≤ reg s Rsp
   pub stack_ends : reg s Rsp + 8 ≤ 2 ^ 64
   pub stack_aligned : (reg s Rsp + 8) % 16 ≡ 0
   -- the input arrays and the scalars' registers hold the inputs
-  pub arrays : (param word : ℕ) → word < input_array_words program.params param → map.get s.cells (place_of s (frame_of lines) (Array param) word) ≡ Some (input_word program.params inputs param word)
-  pub scalars : (param : ℕ) → 0 < words_if is_scalar program.params param → reg s (param_reg param) ≡ input_word program.params inputs param 0
+  pub arrays : (param word : ℕ) → word < input_array_words program.params param
+      → map.get s.cells (address_of s (frame_of lines) (Array param) word) ≡ Some
+      (input_word program.params inputs param word)
+  pub scalars : (param : ℕ) → 0 < words_if is_scalar program.params param
+      → reg s (param_reg param) ≡ input_word program.params inputs param 0
   -- the output arrays, the frame and the return cell share no cell with each other or an input array;
   -- input arrays may overlap
   pub apart : (a b : Area) → a ≢ b → IsTrue (is_apart program.params a) → AreApart s program.params (frame_of lines) a b

@@ -16,8 +16,8 @@ fn overflows(sum: u128) -> bool
 }
 
 /// A word as the number that is 2^63 above its signed value.
-fn raised(word: u64) -> u128
-    ensures value { result ≡ spec.raised word }
+fn biased(word: u64) -> u128
+    ensures value { result ≡ spec.biased word }
     ensures range { result < 2 ^ 64 }
 {
     u128::from(word.wrapping_add(1 << 63))
@@ -38,7 +38,7 @@ pub fn sum_into(state: &mut State, dst: Reg, word: u64, carry: bool)
     let sum = u128::from(old) + u128::from(word) + u128::from(carry);
     let result = low_word(sum);
     state.cf = Some(sum >= 1 << 64);
-    state.of = Some(overflows(raised(old) + raised(word) + u128::from(carry)));
+    state.of = Some(overflows(biased(old) + biased(word) + u128::from(carry)));
     state.zf = Some(result == 0);
     state.set_reg(dst, result);
 }
@@ -51,7 +51,7 @@ pub fn difference_into(state: &mut State, dst: Reg, word: u64, borrow: bool)
     let taken = u128::from(word) + u128::from(borrow);
     let result = low_word(u128::from(old) + (1 << 64) - taken);
     state.cf = Some(u128::from(old) < taken);
-    state.of = Some(overflows(raised(old) + (1 << 64) - (raised(word) + u128::from(borrow))));
+    state.of = Some(overflows(biased(old) + (1 << 64) - (biased(word) + u128::from(borrow))));
     state.zf = Some(result == 0);
     state.set_reg(dst, result);
 }
@@ -62,7 +62,7 @@ pub fn compare(state: &mut State, dst: Reg, word: u64)
 {
     let old = state.reg(dst);
     state.cf = Some(old < word);
-    state.of = Some(overflows(raised(old) + (1 << 64) - raised(word)));
+    state.of = Some(overflows(biased(old) + (1 << 64) - biased(word)));
     state.zf = Some(old.wrapping_sub(word) == 0);
 }
 

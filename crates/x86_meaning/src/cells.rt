@@ -5,7 +5,7 @@ use std::alloc::{AllocError, Global};
 use std::collections::BTreeMap;
 use std::marker::Model;
 
-/// A memory of words at multiples of 8. Contracts see the finite map from places to words.
+/// A memory of words at multiples of 8. Contracts see the finite map from addresses to words.
 #[derive(Drop)]
 pub struct Cells {
     words: BTreeMap<u64, u64>,
@@ -38,31 +38,32 @@ impl Cells {
         }
     }
 
-    /// Puts a word at a place. The one error is want of memory, which leaves the memory as it was.
-    pub fn set(&mut self, place: u64, word: u64) -> Result<(), AllocError>
-        requires { place % 8 ≡ 0 }
-        ensures ok { OnOk result (self.new ≡ map.insert self.old place word) }
+    /// Puts a word at an address. The one error is want of memory, which leaves the memory as it was.
+    pub fn set(&mut self, address: u64, word: u64) -> Result<(), AllocError>
+        requires { address % 8 ≡ 0 }
+        ensures ok { OnOk result (self.new ≡ map.insert self.old address word) }
         ensures err { OnErr result (self.new ≡ self.old) }
     {
-        self.words.insert(place, word)?;
+        self.words.insert(address, word)?;
         Ok(())
     }
 
-    /// The word at a place, None exactly where the place is not in the memory.
-    pub fn get(&self, place: u64) -> Option<u64>
-        ensures word { result ≡ map.get self.now place }
-        ensures aligned { IfSome result (λ _. place % 8 ≡ 0) }
+    /// The word at an address, None exactly where the address is not in the memory.
+    pub fn get(&self, address: u64) -> Option<u64>
+        ensures word { result ≡ map.get self.now address }
+        ensures aligned { IfSome result (λ _. address % 8 ≡ 0) }
     {
-        self.words.get(&place).copied()
+        self.words.get(&address).copied()
     }
 
-    /// Puts another word at a place, or answers false exactly where the place is not in the memory. It takes
+    /// Puts another word at an address, or answers false exactly where the address is not in the memory. It takes
     /// no memory.
-    pub fn replace(&mut self, place: u64, word: u64) -> bool
-        ensures there { result ≡ is_some (map.get self.old place) }
-        ensures cells { self.new ≡ (if is_some (map.get self.old place) then map.insert self.old place word else self.old) }
+    pub fn replace(&mut self, address: u64, word: u64) -> bool
+        ensures there { result ≡ is_some (map.get self.old address) }
+        ensures cells { self.new ≡ (if is_some (map.get self.old address) then map.insert self.old address word else
+            self.old) }
     {
-        match self.words.get_mut(&place) {
+        match self.words.get_mut(&address) {
             Some(cell) => {
                 *cell = word;
                 true

@@ -12,22 +12,24 @@ use crate::state::State;
 use x86_instr::{Bin, Instr, Mem, Reg, Un};
 
 /// Runs one instruction, which is not `ret`. False exactly where it is stuck, with the state unchanged:
-/// where it reads an undefined flag, or reads or writes a place outside the memory. It takes no memory.
+/// where it reads an undefined flag, or reads or writes an address outside the memory. It takes no memory.
 pub fn step(state: &mut State, instr: &Instr) -> bool
     requires { is_ret instr.now ≡ false }
-    ensures { MatchBool result (spec.step_of instr.now state.old ≡ Some state.new) ((spec.step_of instr.now state.old ≡ None) × (state.new ≡ state.old)) }
+    ensures { MatchBool result (spec.step_of instr.now state.old ≡ Some state.new)
+        ((spec.step_of instr.now state.old ≡ None) × (state.new ≡ state.old)) }
 {
     stepped(state, instr).is_some()
 }
 
 fn stepped(state: &mut State, instr: &Instr) -> Option<()>
-    ensures { MatchOption result ((spec.step_of instr.now state.old ≡ None) × (state.new ≡ state.old)) (λ _. spec.step_of instr.now state.old ≡ Some state.new) }
+    ensures { MatchOption result ((spec.step_of instr.now state.old ≡ None) × (state.new ≡ state.old))
+        (λ _. spec.step_of instr.now state.old ≡ Some state.new) }
 {
     match *instr {
         Instr::Mov { dst, src } => state.set_reg(dst, state.rm_word(src)?),
         Instr::MovImm { dst, imm } => state.set_reg(dst, imm),
         Instr::Store { mem, src } => return store(state, mem, src),
-        Instr::Lea { dst, mem } => state.set_reg(dst, state.address(mem)),
+        Instr::Lea { dst, mem } => state.set_reg(dst, state.effective_address(mem)),
         Instr::Bin { op, dst, src } => {
             let word = state.src_word(src)?;
             return bin_into(state, op, dst, word);
@@ -68,14 +70,14 @@ fn stepped(state: &mut State, instr: &Instr) -> Option<()>
             state.set_reg(dst, word >> (state.reg(count) % 64));
         }
         Instr::Set { cond, dst } => {
-            let holds = state.holds(cond)?;
-            set_into(state, dst, holds);
+            let condition_holds = state.condition_holds(cond)?;
+            set_into(state, dst, condition_holds);
         }
         Instr::Movzx { dst, src } => state.set_reg(dst, state.reg(src) % 256),
         Instr::Cmov { cond, dst, src } => {
             let word = state.rm_word(src)?; // read in any case
-            let holds = state.holds(cond)?;
-            cmov_into(state, dst, word, holds);
+            let condition_holds = state.condition_holds(cond)?;
+            cmov_into(state, dst, word, condition_holds);
         }
         Instr::Clc => state.cf = Some(false),
         Instr::Ret => (),
@@ -84,18 +86,21 @@ fn stepped(state: &mut State, instr: &Instr) -> Option<()>
 }
 
 fn store(state: &mut State, mem: Mem, src: Reg) -> Option<()>
-    ensures { MatchOption result ((spec.stored (spec.address state.old mem) (spec.reg state.old src) state.old ≡ None) × (state.new ≡ state.old)) (λ _. spec.stored (spec.address state.old mem) (spec.reg state.old src) state.old ≡ Some state.new) }
+    ensures { MatchOption result ((spec.stored (spec.effective_address state.old mem)
+        (spec.reg state.old src) state.old ≡ None) × (state.new ≡ state.old))
+        (λ _. spec.stored (spec.effective_address state.old mem) (spec.reg state.old src) state.old ≡ Some state.new) }
 {
-    let place = state.address(mem);
+    let address = state.effective_address(mem);
     let word = state.reg(src);
-    if !state.cells.replace(place, word) {
+    if !state.cells.replace(address, word) {
         return None;
     }
     Some(())
 }
 
 fn bin_into(state: &mut State, op: Bin, dst: Reg, word: u64) -> Option<()>
-    ensures { MatchOption result ((spec.bin_into op dst word state.old ≡ None) × (state.new ≡ state.old)) (λ _. spec.bin_into op dst word state.old ≡ Some state.new) }
+    ensures { MatchOption result ((spec.bin_into op dst word state.old ≡ None) × (state.new ≡ state.old))
+        (λ _. spec.bin_into op dst word state.old ≡ Some state.new) }
 {
     match op {
         Bin::Add => sum_into(state, dst, word, false),
@@ -128,16 +133,20 @@ fn un_into(state: &mut State, op: Un, dst: Reg)
     }
 }
 
-fn cmov_into(state: &mut State, dst: Reg, word: u64, holds: bool)
-    ensures { state.new ≡ spec.cmov_into dst word holds state.old }
+fn cmov_into(state: &mut State, dst: Reg, word: u64, condition_holds: bool)
+    ensures { state.new ≡ spec.cmov_into dst word condition_holds state.old }
 {
-    let word = if holds { word } else { state.reg(dst) };
+    let word = if condition_holds {
+        word
+    } else {
+        state.reg(dst)
+    };
     state.set_reg(dst, word);
 }
 
-fn set_into(state: &mut State, dst: Reg, holds: bool)
-    ensures { state.new ≡ spec.set_into dst holds state.old }
+fn set_into(state: &mut State, dst: Reg, condition_holds: bool)
+    ensures { state.new ≡ spec.set_into dst condition_holds state.old }
 {
     let word = state.reg(dst);
-    state.set_reg(dst, word / 256 * 256 + u64::from(holds));
+    state.set_reg(dst, word / 256 * 256 + u64::from(condition_holds));
 }

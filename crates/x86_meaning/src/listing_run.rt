@@ -1,5 +1,5 @@
 ghost use Rattle.std.specs.Prelude.{◌≡◌};
-ghost use Rattle.x86_meaning.specs.Runs.{SamePlaces, run_from};
+ghost use Rattle.x86_meaning.specs.Runs.{SameAddresses, run_from};
 ghost use Rattle.x86_meaning.specs.Outcomes.{outcome_of};
 
 use crate::execution::step;
@@ -13,10 +13,10 @@ pub struct Stuck {
 }
 
 /// Runs a listing from its first line to `ret`. The error comes exactly where an instruction is stuck, and
-/// the state is then the one before it. The memory has cells at the same places as before. It takes no memory.
+/// the state is then the one before it. The memory has cells at the same addresses as before. It takes no memory.
 pub fn run(listing: &Listing, state: &mut State) -> Result<(), Stuck>
     ensures outcome { outcome_of result state.new ≡ run_from 1 listing.now.lines state.old }
-    ensures places { SamePlaces state.old state.new }
+    ensures addresses { SameAddresses state.old state.new }
 {
     let lines = listing.lines();
     for (number, line) in lines.iter().enumerate() {

@@ -26,7 +26,8 @@ fn has_bit(word: u64, number: u8) -> bool
 
 /// A register's word shifted to the left.
 pub fn shl_into(state: &mut State, dst: Reg, by: ShiftCount)
-    ensures { state.new ≡ spec.shift_into dst (spec.reg state.old dst * 2 ^ by % 2 ^ 64) (spec.has_bit (spec.reg state.old dst) (64 - by)) state.old }
+    ensures { state.new ≡ spec.shift_into dst (spec.reg state.old dst * 2 ^ by % 2 ^ 64)
+        (spec.has_bit (spec.reg state.old dst) (64 - by)) state.old }
 {
     let old = state.reg(dst);
     let bits = by.bits();
@@ -35,7 +36,8 @@ pub fn shl_into(state: &mut State, dst: Reg, by: ShiftCount)
 
 /// A register's word shifted to the right.
 pub fn shr_into(state: &mut State, dst: Reg, by: ShiftCount)
-    ensures { state.new ≡ spec.shift_into dst (spec.reg state.old dst / 2 ^ by) (spec.has_bit (spec.reg state.old dst) (by - 1)) state.old }
+    ensures { state.new ≡ spec.shift_into dst (spec.reg state.old dst / 2 ^ by)
+        (spec.has_bit (spec.reg state.old dst) (by - 1)) state.old }
 {
     let old = state.reg(dst);
     let bits = by.bits();
@@ -54,7 +56,8 @@ fn funnel(low: u64, high: u64, bits: u8) -> u64
 
 /// A register's word shifted to the right and filled up from another register.
 pub fn shrd_into(state: &mut State, dst: Reg, src: Reg, by: ShiftCount)
-    ensures { state.new ≡ spec.shift_into dst (spec.funnel (spec.reg state.old dst) (spec.reg state.old src) by) (spec.has_bit (spec.reg state.old dst) (by - 1)) state.old }
+    ensures { state.new ≡ spec.shift_into dst (spec.funnel (spec.reg state.old dst) (spec.reg state.old src) by)
+        (spec.has_bit (spec.reg state.old dst) (by - 1)) state.old }
 {
     let old = state.reg(dst);
     let bits = by.bits();

@@ -17,16 +17,16 @@ use x86_instr::{Listing, Reg};
 /// The word of each cell that holds no input.
 const FILLING: u64 = 0x5a5a_5a5a_5a5a_5a5a;
 
-/// The place of the return address.
+/// The address of the return address.
 const STACK_PLACE: u64 = 0x7fff_fff8;
 
-/// The places from the begin of one parameter's array to that of the next one.
+/// The addresses from the begin of one parameter's array to that of the next one.
 const ARRAY_STEP: u64 = 65_536;
 
 /// Where a parameter's array begins.
-fn array_place(param: usize) -> u64
+fn array_address(param: usize) -> u64
     requires { param < 6 }
-    ensures { result ≡ spec.array_place param }
+    ensures { result ≡ spec.array_address param }
 {
     ARRAY_STEP * (param as u64 + 1)
 }
@@ -51,7 +51,7 @@ fn param_word(program: &Program, inputs: &[u64], param: usize, other: u64) -> u6
         return other;
     };
     match found.role {
-        Role::Output | Role::InputArray => array_place(param),
+        Role::Output | Role::InputArray => array_address(param),
         Role::InputScalar => input_word(program, inputs, param, 0),
     }
 }
@@ -148,11 +148,11 @@ fn put_array(
     param: usize,
 ) -> Result<(), AllocError>
     requires { param < 6 }
-    ensures { OnOk result (cells.new ≡ rows.array_row program.entry.now.params inputs.entry.now param cells.old) }
+    ensures { OnOk result (cells.new ≡ rows.with_array program.entry.now.params inputs.entry.now param cells.old) }
 {
     for word in 0..array_words(program, param) {
-        let place = array_place(param) + 8 * word as u64;
-        cells.set(place, array_cell(program, inputs, param, word))?;
+        let address = array_address(param) + 8 * word as u64;
+        cells.set(address, array_cell(program, inputs, param, word))?;
     }
     Ok(())
 }
@@ -160,7 +160,8 @@ fn put_array(
 /// Puts the arrays of all parameters into the memory.
 #[tactic(auto, using(crate::proofs::StatedRows::rows_none, crate::proofs::StatedRows::rows_more, crate::proofs::StatedRows::params_limits))]
 fn put_arrays(cells: &mut Cells, program: &Program, inputs: &[u64]) -> Result<(), AllocError>
-    ensures arrays { OnOk result (cells.new ≡ rows.array_rows program.entry.now.params inputs.entry.now (length program.entry.now.params) cells.old) }
+    ensures arrays { OnOk result (cells.new ≡ rows.with_arrays program.entry.now.params inputs.entry.now
+        (length program.entry.now.params) cells.old) }
     ensures limits { spec.AreParams program.entry.now.params }
 {
     for param in 0..program.params().len() {
@@ -174,7 +175,7 @@ fn put_arrays(cells: &mut Cells, program: &Program, inputs: &[u64]) -> Result<()
 fn put_stack(cells: &mut Cells, frame: u32) -> Result<(), AllocError>
     requires aligned { frame % 8 ≡ 0 }
     requires most { frame ≤ 32816 }
-    ensures { OnOk result (cells.new ≡ rows.stack_row frame cells.old) }
+    ensures { OnOk result (cells.new ≡ rows.with_stack frame cells.old) }
 {
     let first = STACK_PLACE - u64::from(frame);
     for word in 0..u64::from(frame) / 8 + 1 {
@@ -215,7 +216,8 @@ impl State {
         listing: &Listing,
         inputs: &[u64],
     ) -> Result<State, EvalFault>
-        ensures stated { IfOk result (λ state. spec.IsStated program.entry.now listing.entry.now.lines inputs.entry.now state) }
+        ensures stated { IfOk result (λ state.
+            spec.IsStated program.entry.now listing.entry.now.lines inputs.entry.now state) }
         ensures start { IfOk result (λ state. IsStart program.entry.now listing.entry.now.lines inputs.entry.now state) }
         ensures err { IfErr result (λ fault. Refuses program.entry.now inputs.entry.now fault) }
     {

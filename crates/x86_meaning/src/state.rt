@@ -30,8 +30,8 @@ impl State {
     }
 
     /// The address of a memory operand.
-    pub fn address(&self, mem: Mem) -> u64
-        ensures { result ≡ spec.address self.now mem }
+    pub fn effective_address(&self, mem: Mem) -> u64
+        ensures { result ≡ spec.effective_address self.now mem }
     {
         self.reg(mem.base)
             .wrapping_add(self.index_word(mem.index))
@@ -50,30 +50,30 @@ impl State {
         }
     }
 
-    /// The word of a register or memory source, None exactly where its place is not in the memory.
+    /// The word of a register or memory source, None exactly where its address is not in the memory.
     pub fn rm_word(&self, rm: Rm) -> Option<u64>
         ensures { result ≡ spec.rm_word self.now rm }
     {
         match rm {
             Rm::Reg(reg) => Some(self.reg(reg)),
-            Rm::Mem(mem) => self.cells.get(self.address(mem)),
+            Rm::Mem(mem) => self.cells.get(self.effective_address(mem)),
         }
     }
 
-    /// The word of a source, None exactly where its place is not in the memory.
+    /// The word of a source, None exactly where its address is not in the memory.
     pub fn src_word(&self, src: Src) -> Option<u64>
         ensures { result ≡ spec.src_word self.now src }
     {
         match src {
             Src::Reg(reg) => Some(self.reg(reg)),
-            Src::Mem(mem) => self.cells.get(self.address(mem)),
+            Src::Mem(mem) => self.cells.get(self.effective_address(mem)),
             Src::Imm(number) => Some(i64::from(number).cast_unsigned()),
         }
     }
 
     /// Whether a condition holds, None exactly where its flag is undefined.
-    pub fn holds(&self, cond: Cond) -> Option<bool>
-        ensures { result ≡ spec.holds self.now cond }
+    pub fn condition_holds(&self, cond: Cond) -> Option<bool>
+        ensures { result ≡ spec.condition_holds self.now cond }
     {
         match cond {
             Cond::O => self.of,

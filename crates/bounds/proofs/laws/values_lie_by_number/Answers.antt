@@ -1,15 +1,14 @@
 use Rattle.std.proofs.Common.{ℕ, zero, suc, ◌<◌, List, [], ◌∷◌, length, arith}
 use Rattle.std.specs.Prelude.{slice_index, slice_index_or}
+use Rattle.base.proofs.Arithmetic.{not_below_zero}
 use Rattle.bounds.specs.declared.interval.Interval.{Interval}
 use Rattle.bounds.specs.Intervals.{full}
 use Rattle.bounds.specs.Soundness.{IsBetween, LieIn}
 use Rattle.bounds.proofs.laws.values_lie_by_number.Goals as goal
 
-no_number : (n : ℕ) → n < 0 → ⊥
-no_number n h = omega (arith, h)
-
-by_number : (is : List Interval) (vs : List ℕ) → LieIn is vs → (n : ℕ) → n < length vs → IsBetween (slice_index_or is n full) (slice_index vs n)
-by_number [] [] t n h = absurd (no_number n h)
+by_number : (is : List Interval) (vs : List ℕ) → LieIn is vs → (n : ℕ) → n < length vs
+    → IsBetween (slice_index_or is n full) (slice_index vs n)
+by_number [] [] t n h = absurd (not_below_zero n h)
 by_number [] (v ∷ vs) t n h = absurd t
 by_number (i ∷ is) [] t n h = absurd t
 by_number (i ∷ is) (v ∷ vs) t zero h = record { low = t.0; high = t.1 }

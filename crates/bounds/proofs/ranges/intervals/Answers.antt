@@ -1,7 +1,7 @@
 use Rattle.std.proofs.Common.{◌≡◌, ◌<◌, [], length, get_or, sym, subst, arith}
 use Rattle.std.proofs.lemmas.Grind.{common_steps}
 use Rattle.std.specs.List.{AllByRecursion}
-use Rattle.word_program.specs.Accepted.{HasCount}
+use Rattle.word_program.specs.Accepted.{HasShift}
 use Rattle.bounds.specs.Intervals.{intervals_of}
 use Rattle.bounds.specs.Soundness.{IsOrdered, HoldValues}
 use Rattle.bounds.proofs.Soundness.{intervals_hold, intervals_ordered, count_at}
@@ -11,13 +11,17 @@ pub push_op-requires : goal.push_op-requires
 push_op-requires c =
     let program = c.args.program.now in
     let within = subst (λ ops. c.loop-op.op-index < length ops) c.ops-op-items.ensures.ops c.loop-op-test.true in
-    let counted = count_at program.params program.ops [] c.ops-op-items.ensures.accepted.ops c.loop-op.op-index c.op-item.result within in
-    subst (λ op. HasCount op.kind) (sym c.op-item.is) (subst (λ ops. HasCount (get_or ops c.loop-op.op-index c.op-item.result).kind) (sym c.ops-op-items.ensures.ops) counted)
+    let counted = count_at program.params program.ops [] c.ops-op-items.ensures.accepted.ops c.loop-op.op-index
+    c.op-item.result within in
+    subst (λ op. HasShift op.kind) (sym c.op-item.is)
+    (subst (λ ops. HasShift (get_or ops c.loop-op.op-index c.op-item.result).kind)
+    (sym c.ops-op-items.ensures.ops) counted)
 
 pub returns-clause-sound : goal.returns-clause-sound
 returns-clause-sound c =
     let exact : c.loop-op.list.items ≡ intervals_of c.args.program.now = grind (arith, common_steps) in
-    subst (HoldValues c.args.program.now) (sym exact) (intervals_hold c.args.program.now c.ops-op-items.ensures.accepted)
+    subst (HoldValues c.args.program.now) (sym exact)
+    (intervals_hold c.args.program.now c.ops-op-items.ensures.accepted)
 
 pub returns-clause-ordered : goal.returns-clause-ordered
 returns-clause-ordered c =

@@ -4,4 +4,5 @@ use Rattle.dependency_graph.specs.Transposed.{reads_of}
 use Rattle.dependency_graph.proofs.operands.reads_of.Given as goal
 
 abbrev pub invariant-loop-op : goal.invariant-loop-op
-invariant-loop-op l = map (reads_of l.makers) l.ops ≡ l.reads.items ++ map (reads_of l.makers) (drop l.op-index l.ops)
+invariant-loop-op l = map (reads_of l.definers) l.ops ≡ l.reads.items
+    ++ map (reads_of l.definers) (drop l.op-index l.ops)

@@ -1,7 +1,7 @@
 -- The results of the operations so far have smaller numbers.
 use Rattle.std.proofs.Common.{◌≡◌, ◌≤◌}
 use Rattle.dependency_graph.proofs.NeedLemmas.{results}
-use Rattle.dependency_graph.proofs.values.defining_op.Given as goal
+use Rattle.dependency_graph.proofs.values.definer.Given as goal
 
 abbrev pub invariant-loop-op : goal.invariant-loop-op
 invariant-loop-op l = record {

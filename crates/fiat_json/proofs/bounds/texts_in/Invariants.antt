@@ -4,4 +4,5 @@ use Rattle.fiat_json.specs.Shape.{list_of, texts_from}
 use Rattle.fiat_json.proofs.bounds.texts_in.Given as goal
 
 abbrev pub invariant-loop-value : goal.invariant-loop-value
-invariant-loop-value l = texts_from [] (list_of (items_view l.list)) ≡ texts_from l.texts (list_of (items_view (drop l.value-index l.list)))
+invariant-loop-value l = texts_from [] (list_of (items_view l.list)) ≡ texts_from l.texts
+    (list_of (items_view (drop l.value-index l.list)))

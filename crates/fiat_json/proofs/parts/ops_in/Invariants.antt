@@ -8,6 +8,8 @@ use Rattle.fiat_json.proofs.parts.ops_in.Given as goal
 abbrev pub invariant-loop-value : goal.invariant-loop-value
 invariant-loop-value l = record {
   count : l.item ≡ l.value-index;
-  fault : walk op_fault (λ u d. u) tt 0 (list_of (items_view l.list)) ≡ walk op_fault (λ u d. u) tt l.item (list_of (items_view (drop l.value-index l.list)));
-  state : fold with_op [] (list_of (items_view l.list)) ≡ fold with_op l.ops (list_of (items_view (drop l.value-index l.list)));
+  fault : walk op_fault (λ u d. u) tt 0 (list_of (items_view l.list)) ≡ walk op_fault (λ u d. u) tt l.item
+      (list_of (items_view (drop l.value-index l.list)));
+  state : fold with_op [] (list_of (items_view l.list)) ≡ fold with_op l.ops
+      (list_of (items_view (drop l.value-index l.list)));
 }

@@ -8,6 +8,8 @@ use Rattle.fiat_json.proofs.parts.params_in.Given as goal
 abbrev pub invariant-loop-value : goal.invariant-loop-value
 invariant-loop-value l = record {
   count : l.item ≡ l.value-index;
-  fault : walk (param_fault l.section) (λ u d. u) tt 0 (list_of (items_view l.list)) ≡ walk (param_fault l.section) (λ u d. u) tt l.item (list_of (items_view (drop l.value-index l.list)));
-  state : fold with_param [] (list_of (items_view l.list)) ≡ fold with_param l.params (list_of (items_view (drop l.value-index l.list)));
+  fault : walk (param_fault l.section) (λ u d. u) tt 0 (list_of (items_view l.list)) ≡ walk (param_fault l.section)
+      (λ u d. u) tt l.item (list_of (items_view (drop l.value-index l.list)));
+  state : fold with_param [] (list_of (items_view l.list)) ≡ fold with_param l.params
+      (list_of (items_view (drop l.value-index l.list)));
 }

@@ -4,14 +4,19 @@ use Rattle.std.proofs.KnownBytes.{Appends-trans}
 use Rattle.io_ports.proofs.host.write_all.Goals as goal
 
 -- the bytes are what was sent, then n more, and then the rest
-split_again : (all sent rest : List ℕ) (n : ℕ) → all ≡ sent ++ rest → all ≡ (sent ++ take n rest) ++ take (length rest - n) (drop n rest)
+split_again : (all sent rest : List ℕ) (n : ℕ) → all ≡ sent ++ rest
+    → all ≡ (sent ++ take n rest) ++ take (length rest - n) (drop n rest)
 split_again all sent rest n whole =
-    rw (take_rest rest n) (whole ∙ ap (λ l. sent ++ l) (sym (take-append-drop n rest)) ∙ sym (append_assoc sent (take n rest) (drop n rest)))
+    rw (take_rest rest n) (whole ∙ ap (λ l. sent ++ l) (sym (take-append-drop n rest))
+    ∙ sym (append_assoc sent (take n rest) (drop n rest)))
 
 -- what was sent so far, and then what this write took
 pub loop-rest-preserved : goal.loop-rest-preserved
 loop-rest-preserved g c =
     let sent = c.loop-rest.invariant in
     let rest = c.loop-rest.rest.now in
-    let n = c.in-Ok.count in
-    (sent.0 ++ take n rest, split_again c.args.bytes.now sent.0 rest n sent.1, Appends-trans _ _ _ sent.0 (take n rest) sent.2 c.in-Ok.ensures.bytes)
+    let n = c.in-Ok.count in (
+      sent.0 ++ take n rest,
+      split_again c.args.bytes.now sent.0 rest n sent.1,
+      Appends-trans _ _ _ sent.0 (take n rest) sent.2 c.in-Ok.ensures.bytes,
+    )

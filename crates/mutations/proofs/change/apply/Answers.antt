@@ -10,32 +10,40 @@ move_slot-requires-clause-to c =
     move_within c.args.program.now c.args.plan.now.slots c.in-Move.slot c.in-Move.to c.requires.legal
     (subst (Fits c.args.program.now c.args.plan.now.slots) c.in-Move.is c.requires.fits)
 
-pub turn_swap-requires-clause-op : goal.turn_swap-requires-clause-op
+pub toggle_swap_at-requires-clause-op : goal.toggle_swap_at-requires-clause-op
 unfolding Fits
-turn_swap-requires-clause-op c =
+toggle_swap_at-requires-clause-op c =
     legal_op c.args.program.now c.args.plan.now.slots c.requires.legal c.in-Swap.slot
     (subst (Fits c.args.program.now c.args.plan.now.slots) c.in-Swap.is c.requires.fits)
 
 pub returns-in-Move-clause-legal : goal.returns-in-Move-clause-legal
 unfolding applied
 returns-in-Move-clause-legal c =
-    legal_after c.args.program.now (Move c.in-Move.slot c.in-Move.to) c.args.plan.now.slots c.move_slot.new.self.slots c.requires.legal
-    (subst (Fits c.args.program.now c.args.plan.now.slots) c.in-Move.is c.requires.fits) (ap (λ v. v.slots) c.move_slot.ensures)
+    legal_after c.args.program.now (Move c.in-Move.slot c.in-Move.to) c.args.plan.now.slots c.move_slot.new.self.slots
+    c.requires.legal
+    (subst (Fits c.args.program.now c.args.plan.now.slots) c.in-Move.is c.requires.fits)
+    (ap (λ v. v.slots) c.move_slot.ensures)
 
 pub returns-in-Template-clause-legal : goal.returns-in-Template-clause-legal
 unfolding applied
 returns-in-Template-clause-legal c =
-    legal_after c.args.program.now (Template c.in-Template.slot c.in-Template.number) c.args.plan.now.slots c.set_template.new.plan.slots c.requires.legal
-    (subst (Fits c.args.program.now c.args.plan.now.slots) c.in-Template.is c.requires.fits) (ap (λ v. v.slots) c.set_template.ensures)
+    legal_after c.args.program.now (Template c.in-Template.slot c.in-Template.number) c.args.plan.now.slots
+    c.set_template.new.plan.slots c.requires.legal
+    (subst (Fits c.args.program.now c.args.plan.now.slots) c.in-Template.is c.requires.fits)
+    (ap (λ v. v.slots) c.set_template.ensures)
 
 pub returns-in-Swap-clause-legal : goal.returns-in-Swap-clause-legal
 unfolding applied
 returns-in-Swap-clause-legal c =
-    legal_after c.args.program.now (Swap c.in-Swap.slot) c.args.plan.now.slots c.turn_swap.new.plan.slots c.requires.legal
-    (subst (Fits c.args.program.now c.args.plan.now.slots) c.in-Swap.is c.requires.fits) (ap (λ v. v.slots) c.turn_swap.ensures)
+    legal_after c.args.program.now (Swap c.in-Swap.slot) c.args.plan.now.slots c.toggle_swap_at.new.plan.slots
+    c.requires.legal
+    (subst (Fits c.args.program.now c.args.plan.now.slots) c.in-Swap.is c.requires.fits)
+    (ap (λ v. v.slots) c.toggle_swap_at.ensures)
 
 pub returns-in-Load-clause-legal : goal.returns-in-Load-clause-legal
 unfolding applied
 returns-in-Load-clause-legal c =
-    legal_after c.args.program.now (Load c.in-Load.slot) c.args.plan.now.slots c.turn_load.new.plan.slots c.requires.legal
-    (subst (Fits c.args.program.now c.args.plan.now.slots) c.in-Load.is c.requires.fits) (ap (λ v. v.slots) c.turn_load.ensures)
+    legal_after c.args.program.now (Load c.in-Load.slot) c.args.plan.now.slots c.toggle_load_at.new.plan.slots
+    c.requires.legal
+    (subst (Fits c.args.program.now c.args.plan.now.slots) c.in-Load.is c.requires.fits)
+    (ap (λ v. v.slots) c.toggle_load_at.ensures)

@@ -6,6 +6,9 @@ use Rattle.op_order.proofs.windows.past_slots_of.Goals as goal
 
 pub loop-place-preserved : goal.loop-place-preserved
 loop-place-preserved c = elim c.if-slot-op.branch [
-  | then-slot-op w ↦ w.past-is ∙ sym (past_here c.args.op c.args.slots.now c.loop-place.place (opening_slot 0) c.loop-place-test.true w.if-slot-op.true)
-  | else-slot-op w ↦ w.past-is ∙ c.loop-place.invariant ∙ sym (past_not_here c.args.op c.args.slots.now c.loop-place.place (opening_slot 0) c.loop-place-test.true w.if-slot-op.false)
+  | then-slot-op w ↦ w.past-is ∙ sym (past_here c.args.op c.args.slots.now c.loop-place.place
+      (opening_slot 0) c.loop-place-test.true w.if-slot-op.true)
+  | else-slot-op w ↦ w.past-is ∙ c.loop-place.invariant
+      ∙ sym (past_not_here c.args.op c.args.slots.now c.loop-place.place
+      (opening_slot 0) c.loop-place-test.true w.if-slot-op.false)
 ]

@@ -9,11 +9,13 @@ use Rattle.op_order.proofs.windows.window.Goals as goal
 
 pub returns-clause-low : goal.returns-clause-low
 unfolding low_of
-returns-clause-low c = c.low.ensures ∙ ap (λ slots. low_of c.args.program.now slots c.args.at) c.slots-slots.ensures.slots
+returns-clause-low c = c.low.ensures ∙ ap
+    (λ slots. low_of c.args.program.now slots c.args.at) c.slots-slots.ensures.slots
 
 pub returns-clause-high : goal.returns-clause-high
 unfolding high_of
-returns-clause-high c = c.high.ensures ∙ ap (λ slots. high_of c.args.program.now slots c.args.at) c.slots-slots.ensures.slots
+returns-clause-high c = c.high.ensures ∙ ap
+    (λ slots. high_of c.args.program.now slots c.args.at) c.slots-slots.ensures.slots
 
 pub returns-clause-below : goal.returns-clause-below
 unfolding low_of
@@ -56,7 +58,8 @@ overflow_cast-result-2 c =
 
 pub high-requires-clause-op : goal.high-requires-clause-op
 high-requires-clause-op c =
-    subst (λ (slots : List Slot). op_at slots c.args.at < length c.args.program.now.ops) (sym c.slots-slots.ensures.slots)
+    subst (λ (slots : List Slot). op_at slots c.args.at < length c.args.program.now.ops)
+    (sym c.slots-slots.ensures.slots)
     (legal_op c.args.program.now c.args.plan.now.slots c.requires.legal c.args.at c.requires.at)
 
 pub high-requires-clause-few : goal.high-requires-clause-few
@@ -67,5 +70,6 @@ high-requires-clause-few c =
 
 pub high-requires-clause-ops : goal.high-requires-clause-ops
 high-requires-clause-ops c =
-    subst (λ (slots : List Slot). All (λ slot. slot.op < length c.args.program.now.ops) slots) (sym c.slots-slots.ensures.slots)
+    subst (λ (slots : List Slot). All (λ slot. slot.op < length c.args.program.now.ops) slots)
+    (sym c.slots-slots.ensures.slots)
     (legal_ops c.args.program.now c.args.plan.now.slots c.requires.legal)

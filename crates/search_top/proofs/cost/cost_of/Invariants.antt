@@ -4,4 +4,7 @@ use Rattle.search_top.proofs.cost.cost_of.Given as goal
 
 -- the cost of the lines so far
 abbrev pub invariant-loop-line : goal.invariant-loop-line
-invariant-loop-line l = record { is : l.cost ≡ cost_spec (take l.line-index l.lines); limit : l.cost ≤ 16 * l.line-index }
+invariant-loop-line l = record {
+  is : l.cost ≡ cost_spec (take l.line-index l.lines);
+  limit : l.cost ≤ 16 * l.line-index;
+}

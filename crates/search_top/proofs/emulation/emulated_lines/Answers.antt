@@ -24,7 +24,9 @@ returns-in-Ok-cell_lines-clause-lines c = record {
     stated = c.in-Ok.ensures.stated;
     ends = sym c.in_default.ensures.outcome;
   };
-  there = left_outputs c.args.program.now c.args.listing.now.lines c.args.inputs.now c.in-Ok.state c.run.new.state c.params.ensures.accepted.params_limit
-      c.in-Ok.ensures.stated c.in-Ok.ensures.start c.in_default.ensures.places;
-  tells = subst (λ ps. string_bytes c.in-Ok-cell_lines.lines ≡ output_lines ps (words_from c.run.new.state.cells 0 ps)) c.params.ensures.params c.in-Ok-cell_lines.ensures;
+  there = left_outputs c.args.program.now c.args.listing.now.lines c.args.inputs.now c.in-Ok.state c.run.new.state
+      c.params.ensures.accepted.params_limit
+      c.in-Ok.ensures.stated c.in-Ok.ensures.start c.in_default.ensures.addresses;
+  tells = subst (λ ps. string_bytes c.in-Ok-cell_lines.lines ≡ output_lines ps (words_from c.run.new.state.cells 0 ps))
+      c.params.ensures.params c.in-Ok-cell_lines.ensures;
 }

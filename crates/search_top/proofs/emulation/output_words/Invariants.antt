@@ -4,4 +4,5 @@ use Rattle.search_top.specs.Emulation.{words_from}
 use Rattle.search_top.proofs.emulation.output_words.Given as goal
 
 abbrev pub invariant-loop-number : goal.invariant-loop-number
-invariant-loop-number l = l.words.items ++ words_from l.cells l.number (drop l.number l.params) ≡ words_from l.cells 0 l.params
+invariant-loop-number l = l.words.items ++ words_from l.cells l.number (drop l.number l.params)
+    ≡ words_from l.cells 0 l.params

@@ -4,4 +4,5 @@ use Rattle.search_top.proofs.outputs.output_lines.Given as goal
 
 -- the lines so far and those of the words that are left are all
 abbrev pub invariant-loop-param : goal.invariant-loop-param
-invariant-loop-param l = string_bytes l.text ++ spec.output_lines (drop l.param-index l.params) l.rest ≡ spec.output_lines l.params l.words
+invariant-loop-param l = string_bytes l.text
+    ++ spec.output_lines (drop l.param-index l.params) l.rest ≡ spec.output_lines l.params l.words

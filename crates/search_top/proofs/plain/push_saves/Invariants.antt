@@ -4,4 +4,5 @@ use Rattle.search_top.proofs.plain.push_saves.Given as goal
 
 -- the lines so far and the saves to come are all
 abbrev pub invariant-loop-param : goal.invariant-loop-param
-invariant-loop-param l = l.lines ++ spec.saves_from l.param (drop l.param l.params) ≡ l.fn.lines ++ spec.saves_from 0 l.params
+invariant-loop-param l = l.lines ++ spec.saves_from l.param (drop l.param l.params) ≡ l.fn.lines
+    ++ spec.saves_from 0 l.params

@@ -4,4 +4,9 @@ use Rattle.search_top.proofs.status.push_program_fault.Goals as goal
 
 pub returns : goal.returns
 unfolding program_fault_text
-returns c = rw (c.in_ok-push_place.ensures, c.in_ok-push_str-2.ensures.bytes, c.in_ok-push_code.ensures, c.in_ok-push_str.ensures.bytes) (simp append_assoc)
+returns c = rw (
+  c.in_ok-push_place.ensures,
+  c.in_ok-push_str-2.ensures.bytes,
+  c.in_ok-push_code.ensures,
+  c.in_ok-push_str.ensures.bytes,
+) (simp append_assoc)

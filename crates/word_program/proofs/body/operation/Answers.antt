@@ -9,8 +9,10 @@ pub returns-in-Ok-clause-state : goal.returns-in-Ok-clause-state
 returns-in-Ok-clause-state c =
     c.in-Ok.ensures
     ∙ ap (λ op. with_op c.results.new.reader op) c.op_on-op.ensures
-    ∙ operation_is _ _ _ _ _ _ _ _ c.items.ensures c.items-3.ensures c.in_ok-kind.ensures.value c.in_ok-operands.ensures.value c.in_ok-targets.ensures.value c.in_ok-targets.ensures.state
+    ∙ operation_is _ _ _ _ _ _ _ _ c.items.ensures c.items-3.ensures c.in_ok-kind.ensures.value
+    c.in_ok-operands.ensures.value c.in_ok-targets.ensures.value c.in_ok-targets.ensures.state
 
 pub op_on-op-requires : goal.op_on-op-requires
 op_on-op-requires c =
-    counted _ _ _ _ _ c.in_ok-operands.ensures.fault (ap length c.items.ensures ∙ c.in_ok-kind.ensures.arguments) c.in_ok-operands.ensures.value
+    counted _ _ _ _ _ c.in_ok-operands.ensures.fault
+    (ap length c.items.ensures ∙ c.in_ok-kind.ensures.arguments) c.in_ok-operands.ensures.value

@@ -10,7 +10,9 @@ invariant-loop-text l = record {
   count : l.place ≡ l.text-index;
   params : l.reader.params ≡ l.initial.reader.params;
   names : length l.reader.names ≡ length l.initial.reader.names + l.text-index;
-  fault : walk (result_fault l.item l.before) with_result l.initial.reader 0 l.texts ≡ walk (result_fault l.item l.before) with_result l.reader l.place (drop l.text-index l.texts);
+  fault : walk (result_fault l.item l.before) with_result l.initial.reader 0 l.texts ≡ walk
+      (result_fault l.item l.before) with_result l.reader l.place (drop l.text-index l.texts);
   state : fold with_result l.initial.reader l.texts ≡ fold with_result l.reader (drop l.text-index l.texts);
-  value : map (target_of l.initial.reader.params) l.texts ≡ l.targets ++ map (target_of l.initial.reader.params) (drop l.text-index l.texts);
+  value : map (target_of l.initial.reader.params) l.texts ≡ l.targets
+      ++ map (target_of l.initial.reader.params) (drop l.text-index l.texts);
 }

@@ -6,5 +6,6 @@ use Rattle.word_program.proofs.evaluation.outputs.Given as goal
 abbrev pub invariant-loop-param : goal.invariant-loop-param
 invariant-loop-param l = record {
   count : l.number ≡ l.param-index;
-  words : outputs_from l.targets l.so_far 0 l.params ≡ l.words.items ++ outputs_from l.targets l.so_far l.number (drop l.param-index l.params);
+  words : outputs_from l.targets l.so_far 0 l.params ≡ l.words.items
+      ++ outputs_from l.targets l.so_far l.number (drop l.param-index l.params);
 }

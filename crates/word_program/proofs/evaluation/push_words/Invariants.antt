@@ -5,4 +5,6 @@ use Rattle.word_program.specs.Values.{stored_word}
 use Rattle.word_program.proofs.evaluation.push_words.Given as goal
 
 abbrev pub invariant-loop-word : goal.invariant-loop-word
-invariant-loop-word l = l.initial.words.items ++ map (stored_word l.targets l.so_far l.param) (range_with_len 0 l.count) ≡ l.words.items ++ map (stored_word l.targets l.so_far l.param) (range_with_len l.word (l.count - l.word))
+invariant-loop-word l = l.initial.words.items
+    ++ map (stored_word l.targets l.so_far l.param) (range_with_len 0 l.count) ≡ l.words.items
+    ++ map (stored_word l.targets l.so_far l.param) (range_with_len l.word (l.count - l.word))

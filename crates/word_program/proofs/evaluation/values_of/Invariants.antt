@@ -4,4 +4,5 @@ use Rattle.word_program.specs.Values.{values_on}
 use Rattle.word_program.proofs.evaluation.values_of.Given as goal
 
 abbrev pub invariant-loop-op : goal.invariant-loop-op
-invariant-loop-op l = values_on l.params l.inputs [] l.ops ≡ values_on l.params l.inputs l.so_far.items (drop l.op-index l.ops)
+invariant-loop-op l = values_on l.params l.inputs [] l.ops ≡ values_on l.params l.inputs l.so_far.items
+    (drop l.op-index l.ops)

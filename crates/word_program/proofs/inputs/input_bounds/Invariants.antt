@@ -4,4 +4,5 @@ use Rattle.word_program.specs.Values as values
 use Rattle.word_program.proofs.inputs.input_bounds.Given as goal
 
 abbrev pub invariant-loop-param : goal.invariant-loop-param
-invariant-loop-param l = values.input_bounds l.params ≡ l.bounds.items ++ values.input_bounds (drop l.param-index l.params)
+invariant-loop-param l = values.input_bounds l.params ≡ l.bounds.items
+    ++ values.input_bounds (drop l.param-index l.params)

@@ -10,5 +10,6 @@ abbrev pub invariant-loop-param : goal.invariant-loop-param
 invariant-loop-param l = record {
   count : l.number ≡ l.param-index;
   params : AllByRecursion IsParam (drop l.param-index l.params);
-  fault : walk (missing_in l.targets) (λ u p. u) tt 0 l.params ≡ walk (missing_in l.targets) (λ u p. u) tt l.number (drop l.param-index l.params);
+  fault : walk (missing_in l.targets) (λ u p. u) tt 0 l.params ≡ walk (missing_in l.targets) (λ u p. u) tt l.number
+      (drop l.param-index l.params);
 }

@@ -8,6 +8,9 @@ use Rattle.word_program.proofs.params.bounds_of.Given as goal
 
 abbrev pub invariant-loop-number : goal.invariant-loop-number
 invariant-loop-number l = record {
-  test : list_all (λ n. is_some (bound_at l.datatype l.param n)) (range_with_len 0 l.datatype.words) ≡ list_all (λ n. is_some (bound_at l.datatype l.param n)) (range_with_len l.number (l.datatype.words - l.number));
-  bounds : map (λ n. unwrap_or (bound_at l.datatype l.param n) full) (range_with_len 0 l.datatype.words) ≡ l.bounds ++ map (λ n. unwrap_or (bound_at l.datatype l.param n) full) (range_with_len l.number (l.datatype.words - l.number));
+  test : list_all (λ n. is_some (bound_at l.datatype l.param n)) (range_with_len 0 l.datatype.words) ≡ list_all
+      (λ n. is_some (bound_at l.datatype l.param n)) (range_with_len l.number (l.datatype.words - l.number));
+  bounds : map (λ n. unwrap_or (bound_at l.datatype l.param n) full) (range_with_len 0 l.datatype.words) ≡ l.bounds
+      ++ map (λ n. unwrap_or (bound_at l.datatype l.param n) full)
+      (range_with_len l.number (l.datatype.words - l.number));
 }

@@ -5,4 +5,5 @@ use Rattle.x86_meaning.proofs.laws.correct_listing_ends.Goals as goal
 
 pub returns : goal.returns
 returns c = λ program lines correct inputs s start.
-    runs_end (λ t. Keeps program.params (frame_of lines) s t.cells) (λ t. Returns program (frame_of lines) inputs s t) lines 1 s (correct.runs inputs s start)
+    runs_end (λ t. Keeps program.params (frame_of lines) s t.cells)
+    (λ t. Returns program (frame_of lines) inputs s t) lines 1 s (correct.runs inputs s start)

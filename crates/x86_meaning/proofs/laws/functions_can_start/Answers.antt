@@ -10,5 +10,8 @@ returns c = λ program lines inputs accepted words within.
     let limits = params_limits program.params accepted.params_limit accepted.params in
     let regs = stated_regs program.params inputs in
     let cells = stated_cells program.params (frame_of lines) inputs in
-    let stated = is_stated program lines inputs regs cells (frame_of lines) limits refl refl refl in
-    (record { regs = regs; cf = None; of = None; zf = None; cells = cells }, stated, stated_is_start program lines inputs _ limits words stated within)
+    let stated = is_stated program lines inputs regs cells (frame_of lines) limits refl refl refl in (
+      record { regs = regs; cf = None; of = None; zf = None; cells = cells },
+      stated,
+      stated_is_start program lines inputs _ limits words stated within,
+    )

@@ -23,6 +23,8 @@ unfolding opening_of
 returns-clause-legal c =
     let program = c.args.program.now in
     let count = ap length c.loop-op.invariant.so_far ∙ length-map-range_with_len opening_slot 0 c.loop-op.op in
-    let all : c.loop-op.op ≡ length program.ops = omega (arith, ap length c.ops.ensures.ops, c.loop-op-test.false, c.loop-op.auto.op-end) in
+    let all : c.loop-op.op ≡ length program.ops =
+    omega (arith, ap length c.ops.ensures.ops, c.loop-op-test.false, c.loop-op.auto.op-end) in
     let legal = opening_legal program (earlier program c.ops.ensures.accepted) (has_template_at program) in
-    subst (IsLegal program) (sym (c.loop-op.invariant.so_far ∙ ap (λ n. map opening_slot (range_with_len 0 n)) all)) legal
+    subst (IsLegal program) (sym (c.loop-op.invariant.so_far ∙ ap (λ n. map opening_slot (range_with_len 0 n)) all))
+    legal

@@ -7,12 +7,14 @@ use Rattle.word_program.proofs.program.Program.same.Goals as goal
 pub returns-then-ne : goal.returns-then-ne
 returns-then-ne c =
     let names = bytes_eq-Decides _ _ in
-    differ_from (λ s. s.name) _ _ _ _ c.self.view_is c.other.view_is (not_from_Decides _ names (turned_true _ _ c.ne.ensures c.if-ne.true))
+    differ_from (λ s. s.name) _ _ _ _ c.self.view_is c.other.view_is
+    (not_from_Decides _ names (turned_true _ _ c.ne.ensures c.if-ne.true))
 
 pub returns-then-ne-2 : goal.returns-then-ne-2
 returns-then-ne-2 c =
     let params = slice_eq-Decides param_decides _ _ _ refl in
-    differ_from (λ s. s.params) _ _ _ _ c.self.view_is c.other.view_is (not_from_Decides _ params (turned_true _ _ c.ne-2.ensures c.if-ne-2.true))
+    differ_from (λ s. s.params) _ _ _ _ c.self.view_is c.other.view_is
+    (not_from_Decides _ params (turned_true _ _ c.ne-2.ensures c.if-ne-2.true))
 
 pub returns : goal.returns
 returns c =

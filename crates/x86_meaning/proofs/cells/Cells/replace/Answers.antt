@@ -6,21 +6,27 @@ use Rattle.x86_meaning.proofs.Entries.{cells_of, held, replaced, aligned_put}
 use Rattle.x86_meaning.proofs.cells.Cells.replace.Goals as goal
 use Rattle.x86_meaning.proofs.cells.Cells.replace.Goals.{in-Some, in-None}
 
--- the place is in the memory exactly where its word is lent
-lent : (c : goal.Joined-get_mut) → is_some (map.get c.args.self.now c.args.place) ≡ is_some (option_copied_mut c.get_mut.result)
-lent c = ap is_some (ap (λ m. map.get m c.args.place) (sym c.self.view_is) ∙ (held c.self.inside.words c.args.place ∙ sym c.get_mut.ensures.value))
+-- the address is in the memory exactly where its word is lent
+lent : (c : goal.Joined-get_mut) → is_some (map.get c.args.self.now c.args.address) ≡ is_some
+    (option_copied_mut c.get_mut.result)
+lent c = ap is_some (ap (λ m. map.get m c.args.address) (sym c.self.view_is)
+    ∙ (held c.self.inside.words c.args.address ∙ sym c.get_mut.ensures.value))
 
 pub invariant_of-self : goal.invariant_of-self
 invariant_of-self c =
     let old = cells_of c.self.inside.words in
     elim c.match-get_mut.branch [
       | in-Some w ↦
-          let there : is_some (map.get old c.args.place) ≡ true =
-          ap is_some (held c.self.inside.words c.args.place ∙ sym c.get_mut.ensures.value) ∙ ap (λ o. is_some (option_copied_mut o)) w.in-Some.is in
+          let there : is_some (map.get old c.args.address) ≡ true =
+          ap is_some (held c.self.inside.words c.args.address ∙ sym c.get_mut.ensures.value)
+          ∙ ap (λ o. is_some (option_copied_mut o)) w.in-Some.is in
           subst AreAligned (sym (ap (λ i. cells_of i.words) w.self-inside-is
-          ∙ replaced c.self.inside.words (c.get_mut.follows.lender c.args.word) c.args.place c.args.word (c.get_mut.follows.holds c.args.word) (ap is_some (sym (held c.self.inside.words c.args.place)) ∙ there)))
-          (aligned_put old c.args.place c.args.word c.self.invariant (c.self.invariant c.args.place there))
-      | in-None w ↦ subst AreAligned (sym (ap (λ i. cells_of i.words) w.self-inside-is ∙ ap cells_of c.get_mut.follows.holds-at-none)) c.self.invariant
+          ∙ replaced c.self.inside.words (c.get_mut.follows.lender c.args.word) c.args.address c.args.word
+          (c.get_mut.follows.condition_holds c.args.word)
+          (ap is_some (sym (held c.self.inside.words c.args.address)) ∙ there)))
+          (aligned_put old c.args.address c.args.word c.self.invariant (c.self.invariant c.args.address there))
+      | in-None w ↦ subst AreAligned (sym (ap (λ i. cells_of i.words) w.self-inside-is
+          ∙ ap cells_of c.get_mut.follows.condition_holds-at-none)) c.self.invariant
     ]
 
 pub returns-clause-there : goal.returns-clause-there
@@ -36,12 +42,16 @@ returns-clause-cells c =
       | in-Some w ↦
           let there = lent c ∙ ap (λ o. is_some (option_copied_mut o)) w.in-Some.is in
           ap (λ i. cells_of i.words) w.self-inside-is
-          ∙ (replaced c.self.inside.words (c.get_mut.follows.lender c.args.word) c.args.place c.args.word (c.get_mut.follows.holds c.args.word)
+          ∙ (replaced c.self.inside.words (c.get_mut.follows.lender c.args.word) c.args.address c.args.word
+          (c.get_mut.follows.condition_holds c.args.word)
           (ap is_some (sym c.get_mut.ensures.value) ∙ ap (λ o. is_some (option_copied_mut o)) w.in-Some.is)
-          ∙ (ap (λ m. map.insert m c.args.place c.args.word) c.self.view_is ∙ sym (ap (λ b. if b then map.insert c.args.self.now c.args.place c.args.word else c.args.self.now) there)))
+          ∙ (ap (λ m. map.insert m c.args.address c.args.word) c.self.view_is
+          ∙ sym (ap (λ b. if b then map.insert c.args.self.now c.args.address c.args.word else c.args.self.now)
+          there)))
       | in-None w ↦
           let there = lent c ∙ ap (λ o. is_some (option_copied_mut o)) w.in-None.is in
           ap (λ i. cells_of i.words) w.self-inside-is
-          ∙ (ap cells_of c.get_mut.follows.holds-at-none
-          ∙ (c.self.view_is ∙ sym (ap (λ b. if b then map.insert c.args.self.now c.args.place c.args.word else c.args.self.now) there)))
+          ∙ (ap cells_of c.get_mut.follows.condition_holds-at-none
+          ∙ (c.self.view_is ∙ sym (ap (λ b. if b then map.insert c.args.self.now c.args.address c.args.word else
+          c.args.self.now) there)))
     ]

@@ -1,7 +1,7 @@
 use Rattle.std.proofs.Common.{◌≡◌, ◌<◌, ◌^◌, drop}
-use Rattle.asm_tokens.specs.Numbers.{numeral}
-use Rattle.asm_tokens.proofs.Digits.{numeral_after}
-use Rattle.asm_tokens.proofs.numbers.numeral.Given as goal
+use Rattle.base.specs.Numbers.{numeral}
+use Rattle.base.proofs.Digits.{numeral_after}
+use Rattle.base.proofs.numbers.numeral.Given as goal
 
 -- the number so far and the digits that are left write the number
 abbrev pub invariant-loop-byte : goal.invariant-loop-byte

@@ -1,6 +1,6 @@
 ghost use Rattle.std.specs.Prelude.{◌≡◌};
 ghost use Rattle.asm_tokens.specs.Tokens.{tokens};
-ghost use Rattle.asm_text.specs.Rows as spec;
+ghost use Rattle.asm_text.specs.Instructions as spec;
 
 use crate::parts::{
     counted, destination, is_end, last_byte_register, last_count, last_memory, last_register,
@@ -11,17 +11,17 @@ use asm_tokens::next;
 use x86_instr::{Bin, Cond, Instr, Mnemonic, Reg, Un};
 
 /// The instruction that a line without its comment is.
-#[tactic(auto, unfolding(crate::specs::Rows::instr_in))]
+#[tactic(auto, unfolding(crate::specs::Instructions::instr_in))]
 pub fn instr_in(text: &[u8]) -> Option<Instr>
     ensures { result ≡ spec.instr_in (tokens text.now) }
 {
     let mnemonic = next(text)?;
-    row(mnemonic_named(mnemonic.text)?, mnemonic.rest)
+    instr_named(mnemonic_named(mnemonic.text)?, mnemonic.rest)
 }
 
-#[tactic(auto, unfolding(crate::specs::Rows::row))]
-fn row(mnemonic: Mnemonic, text: &[u8]) -> Option<Instr>
-    ensures { result ≡ spec.row mnemonic (tokens text.now) }
+#[tactic(auto, unfolding(crate::specs::Instructions::instr_named))]
+fn instr_named(mnemonic: Mnemonic, text: &[u8]) -> Option<Instr>
+    ensures { result ≡ spec.instr_named mnemonic (tokens text.now) }
 {
     match mnemonic {
         Mnemonic::Mov => mov(text),
@@ -67,7 +67,7 @@ fn row(mnemonic: Mnemonic, text: &[u8]) -> Option<Instr>
     }
 }
 
-#[tactic(auto, unfolding(crate::specs::Rows::mov))]
+#[tactic(auto, unfolding(crate::specs::Instructions::mov))]
 fn mov(text: &[u8]) -> Option<Instr>
     ensures { result ≡ spec.mov (tokens text.now) }
 {
@@ -77,7 +77,7 @@ fn mov(text: &[u8]) -> Option<Instr>
     store(operands(text)?)
 }
 
-#[tactic(auto, unfolding(crate::specs::Rows::mov_to_register))]
+#[tactic(auto, unfolding(crate::specs::Instructions::mov_to_register))]
 fn mov_to_register(dst: Reg, text: &[u8]) -> Option<Instr>
     ensures { result ≡ spec.mov_to_register dst (tokens text.now) }
 {
@@ -88,7 +88,7 @@ fn mov_to_register(dst: Reg, text: &[u8]) -> Option<Instr>
     Some(Instr::MovImm { dst, imm })
 }
 
-#[tactic(auto, unfolding(crate::specs::Rows::store))]
+#[tactic(auto, unfolding(crate::specs::Instructions::store))]
 fn store(text: &[u8]) -> Option<Instr>
     ensures { result ≡ spec.store (tokens text.now) }
 {
@@ -99,7 +99,7 @@ fn store(text: &[u8]) -> Option<Instr>
     Some(Instr::Store { mem, src })
 }
 
-#[tactic(auto, unfolding(crate::specs::Rows::lea))]
+#[tactic(auto, unfolding(crate::specs::Instructions::lea))]
 fn lea(text: &[u8]) -> Option<Instr>
     ensures { result ≡ spec.lea (tokens text.now) }
 {
@@ -108,7 +108,7 @@ fn lea(text: &[u8]) -> Option<Instr>
     Some(Instr::Lea { dst, mem })
 }
 
-#[tactic(auto, unfolding(crate::specs::Rows::bin))]
+#[tactic(auto, unfolding(crate::specs::Instructions::bin))]
 fn bin(op: Bin, text: &[u8]) -> Option<Instr>
     ensures { result ≡ spec.bin op (tokens text.now) }
 {
@@ -117,7 +117,7 @@ fn bin(op: Bin, text: &[u8]) -> Option<Instr>
     Some(Instr::Bin { op, dst, src })
 }
 
-#[tactic(auto, unfolding(crate::specs::Rows::test_row))]
+#[tactic(auto, unfolding(crate::specs::Instructions::test_row))]
 fn test_row(text: &[u8]) -> Option<Instr>
     ensures { result ≡ spec.test_row (tokens text.now) }
 {
@@ -126,7 +126,7 @@ fn test_row(text: &[u8]) -> Option<Instr>
     Some(Instr::Test { a, b })
 }
 
-#[tactic(auto, unfolding(crate::specs::Rows::un))]
+#[tactic(auto, unfolding(crate::specs::Instructions::un))]
 fn un(op: Un, text: &[u8]) -> Option<Instr>
     ensures { result ≡ spec.un op (tokens text.now) }
 {
@@ -134,7 +134,7 @@ fn un(op: Un, text: &[u8]) -> Option<Instr>
     Some(Instr::Un { op, dst })
 }
 
-#[tactic(auto, unfolding(crate::specs::Rows::adcx))]
+#[tactic(auto, unfolding(crate::specs::Instructions::adcx))]
 fn adcx(text: &[u8]) -> Option<Instr>
     ensures { result ≡ spec.adcx (tokens text.now) }
 {
@@ -142,7 +142,7 @@ fn adcx(text: &[u8]) -> Option<Instr>
     Some(Instr::Adcx { dst, src })
 }
 
-#[tactic(auto, unfolding(crate::specs::Rows::adox))]
+#[tactic(auto, unfolding(crate::specs::Instructions::adox))]
 fn adox(text: &[u8]) -> Option<Instr>
     ensures { result ≡ spec.adox (tokens text.now) }
 {
@@ -150,7 +150,7 @@ fn adox(text: &[u8]) -> Option<Instr>
     Some(Instr::Adox { dst, src })
 }
 
-#[tactic(auto, unfolding(crate::specs::Rows::imul))]
+#[tactic(auto, unfolding(crate::specs::Instructions::imul))]
 fn imul(text: &[u8]) -> Option<Instr>
     ensures { result ≡ spec.imul (tokens text.now) }
 {
@@ -158,7 +158,7 @@ fn imul(text: &[u8]) -> Option<Instr>
     Some(Instr::Imul { dst, src })
 }
 
-#[tactic(auto, unfolding(crate::specs::Rows::mulx))]
+#[tactic(auto, unfolding(crate::specs::Instructions::mulx))]
 fn mulx(text: &[u8]) -> Option<Instr>
     ensures { result ≡ spec.mulx (tokens text.now) }
 {
@@ -168,7 +168,7 @@ fn mulx(text: &[u8]) -> Option<Instr>
     Some(Instr::Mulx { hi, lo, src })
 }
 
-#[tactic(auto, unfolding(crate::specs::Rows::mul))]
+#[tactic(auto, unfolding(crate::specs::Instructions::mul))]
 fn mul(text: &[u8]) -> Option<Instr>
     ensures { result ≡ spec.mul (tokens text.now) }
 {
@@ -176,7 +176,7 @@ fn mul(text: &[u8]) -> Option<Instr>
     Some(Instr::Mul { src })
 }
 
-#[tactic(auto, unfolding(crate::specs::Rows::shl))]
+#[tactic(auto, unfolding(crate::specs::Instructions::shl))]
 fn shl(text: &[u8]) -> Option<Instr>
     ensures { result ≡ spec.shl (tokens text.now) }
 {
@@ -184,7 +184,7 @@ fn shl(text: &[u8]) -> Option<Instr>
     Some(Instr::Shl { dst, by })
 }
 
-#[tactic(auto, unfolding(crate::specs::Rows::shr))]
+#[tactic(auto, unfolding(crate::specs::Instructions::shr))]
 fn shr(text: &[u8]) -> Option<Instr>
     ensures { result ≡ spec.shr (tokens text.now) }
 {
@@ -192,7 +192,7 @@ fn shr(text: &[u8]) -> Option<Instr>
     Some(Instr::Shr { dst, by })
 }
 
-#[tactic(auto, unfolding(crate::specs::Rows::shrd))]
+#[tactic(auto, unfolding(crate::specs::Instructions::shrd))]
 fn shrd(text: &[u8]) -> Option<Instr>
     ensures { result ≡ spec.shrd (tokens text.now) }
 {
@@ -202,7 +202,7 @@ fn shrd(text: &[u8]) -> Option<Instr>
     Some(Instr::Shrd { dst, src, by })
 }
 
-#[tactic(auto, unfolding(crate::specs::Rows::shlx))]
+#[tactic(auto, unfolding(crate::specs::Instructions::shlx))]
 fn shlx(text: &[u8]) -> Option<Instr>
     ensures { result ≡ spec.shlx (tokens text.now) }
 {
@@ -210,7 +210,7 @@ fn shlx(text: &[u8]) -> Option<Instr>
     Some(Instr::Shlx { dst, src, count })
 }
 
-#[tactic(auto, unfolding(crate::specs::Rows::shrx))]
+#[tactic(auto, unfolding(crate::specs::Instructions::shrx))]
 fn shrx(text: &[u8]) -> Option<Instr>
     ensures { result ≡ spec.shrx (tokens text.now) }
 {
@@ -218,7 +218,7 @@ fn shrx(text: &[u8]) -> Option<Instr>
     Some(Instr::Shrx { dst, src, count })
 }
 
-#[tactic(auto, unfolding(crate::specs::Rows::set))]
+#[tactic(auto, unfolding(crate::specs::Instructions::set))]
 fn set(cond: Cond, text: &[u8]) -> Option<Instr>
     ensures { result ≡ spec.set cond (tokens text.now) }
 {
@@ -226,7 +226,7 @@ fn set(cond: Cond, text: &[u8]) -> Option<Instr>
     Some(Instr::Set { cond, dst })
 }
 
-#[tactic(auto, unfolding(crate::specs::Rows::movzx))]
+#[tactic(auto, unfolding(crate::specs::Instructions::movzx))]
 fn movzx(text: &[u8]) -> Option<Instr>
     ensures { result ≡ spec.movzx (tokens text.now) }
 {
@@ -235,7 +235,7 @@ fn movzx(text: &[u8]) -> Option<Instr>
     Some(Instr::Movzx { dst, src })
 }
 
-#[tactic(auto, unfolding(crate::specs::Rows::cmov))]
+#[tactic(auto, unfolding(crate::specs::Instructions::cmov))]
 fn cmov(cond: Cond, text: &[u8]) -> Option<Instr>
     ensures { result ≡ spec.cmov cond (tokens text.now) }
 {
@@ -243,7 +243,7 @@ fn cmov(cond: Cond, text: &[u8]) -> Option<Instr>
     Some(Instr::Cmov { cond, dst, src })
 }
 
-#[tactic(auto, unfolding(crate::specs::Rows::plain))]
+#[tactic(auto, unfolding(crate::specs::Instructions::plain))]
 fn plain(instr: Instr, text: &[u8]) -> Option<Instr>
     ensures { result ≡ spec.plain instr (tokens text.now) }
 {

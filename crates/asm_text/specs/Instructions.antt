@@ -16,7 +16,7 @@ use Rattle.x86_instr.specs.declared.instr.Instr.{Instr}
 use Rattle.x86_instr.specs.declared.instr.Instr.TheVariants as instrs
 use Rattle.x86_instr.specs.declared.mnemonic.Mnemonic.{Mnemonic}
 use Rattle.x86_instr.specs.declared.mnemonic.Mnemonic.TheVariants as names
-use Rattle.asm_tokens.specs.Options.{◌>>=◌, pick, holds}
+use Rattle.base.specs.Options.{◌>>=◌, pick, guard}
 use Rattle.asm_tokens.specs.Tokens.{Token, after, is_spaced}
 use Rattle.asm_operands.specs.Names.{mnemonic_named}
 use Rattle.asm_operands.specs.Operands.{register_at, byte_register_at, memory_at, rm_at, src_at, count_at, wide_at}
@@ -27,7 +27,7 @@ is_end (t ∷ ts) = false
 
 -- an operand that nothing follows
 abbrev pub ended : {A : Type 0} → A × List Token → Option A
-ended p = holds (is_end p.1) p.0
+ended p = guard (is_end p.1) p.0
 
 -- an operand that a comma follows
 abbrev pub comma : {A : Type 0} → A × List Token → Option (A × List Token)
@@ -35,7 +35,7 @@ comma p = after (codes ",") p.1 >>= (λ rest. Some (p.0, rest))
 
 -- a blank stands between the mnemonic and its operands
 unfoldable pub operands : List Token → Option (List Token)
-operands ts = holds (is_spaced ts) ts
+operands ts = guard (is_spaced ts) ts
 
 -- a register and a comma
 unfoldable pub register_comma : List Token → Option (Reg × List Token)
@@ -68,7 +68,8 @@ last_wide ts = wide_at ts >>= ended
 
 -- the forms of `mov`
 unfoldable pub mov_to_register : Reg → List Token → Option Instr
-mov_to_register dst ts = pick (last_rm ts) (λ src. Some (instrs.Mov dst src)) (last_wide ts >>= (λ imm. Some (instrs.MovImm dst imm)))
+mov_to_register dst ts = pick (last_rm ts) (λ src. Some (instrs.Mov dst src))
+    (last_wide ts >>= (λ imm. Some (instrs.MovImm dst imm)))
 
 unfoldable pub store : List Token → Option Instr
 store ts = memory_at ts >>= comma >>= (λ m. last_register m.1 >>= (λ src. Some (instrs.Store m.0 src)))
@@ -99,7 +100,8 @@ unfoldable pub adox : List Token → Option Instr
 adox ts = register_rm ts >>= (λ p. Some (instrs.Adox p.0 p.1))
 
 unfoldable pub mulx : List Token → Option Instr
-mulx ts = destination ts >>= (λ hi. register_comma hi.1 >>= (λ lo. last_rm lo.1 >>= (λ src. Some (instrs.Mulx hi.0 lo.0 src))))
+mulx ts = destination ts >>= (λ hi. register_comma hi.1 >>=
+    (λ lo. last_rm lo.1 >>= (λ src. Some (instrs.Mulx hi.0 lo.0 src))))
 
 unfoldable pub mul : List Token → Option Instr
 mul ts = operands ts >>= last_rm >>= (λ src. Some (instrs.Mul src))
@@ -117,11 +119,13 @@ unfoldable pub shr : List Token → Option Instr
 shr ts = register_count ts >>= (λ p. Some (instrs.Shr p.0 p.1))
 
 unfoldable pub shrd : List Token → Option Instr
-shrd ts = destination ts >>= (λ d. register_comma d.1 >>= (λ s. last_count s.1 >>= (λ by. Some (instrs.Shrd d.0 s.0 by))))
+shrd ts = destination ts >>= (λ d. register_comma d.1 >>=
+    (λ s. last_count s.1 >>= (λ by. Some (instrs.Shrd d.0 s.0 by))))
 
 -- a destination register, a source, and the register that holds the count
 unfoldable pub counted : List Token → Option (Reg × Rm × Reg)
-counted ts = destination ts >>= (λ d. rm_at d.1 >>= comma >>= (λ s. last_register s.1 >>= (λ count. Some (d.0, s.0, count))))
+counted ts = destination ts >>= (λ d. rm_at d.1 >>= comma >>=
+    (λ s. last_register s.1 >>= (λ count. Some (d.0, s.0, count))))
 
 unfoldable pub shlx : List Token → Option Instr
 shlx ts = counted ts >>= (λ p. Some (instrs.Shlx p.0 p.1 p.2))
@@ -140,50 +144,50 @@ cmov cond ts = register_rm ts >>= (λ p. Some (instrs.Cmov cond p.0 p.1))
 
 -- no operand
 unfoldable pub plain : Instr → List Token → Option Instr
-plain instr ts = holds (is_end ts) instr
+plain instr ts = guard (is_end ts) instr
 
-unfoldable pub row : Mnemonic → List Token → Option Instr
-row names.Mov ts = mov ts
-row names.Movzx ts = movzx ts
-row names.Lea ts = lea ts
-row names.Not ts = un uns.Not ts
-row names.Add ts = bin bins.Add ts
-row names.Adc ts = bin bins.Adc ts
-row names.Sub ts = bin bins.Sub ts
-row names.Cmp ts = bin bins.Cmp ts
-row names.Sbb ts = bin bins.Sbb ts
-row names.Neg ts = un uns.Neg ts
-row names.Inc ts = un uns.Inc ts
-row names.Dec ts = un uns.Dec ts
-row names.And ts = bin bins.And ts
-row names.Or ts = bin bins.Or ts
-row names.Xor ts = bin bins.Xor ts
-row names.Test ts = test_row ts
-row names.Clc ts = plain instrs.Clc ts
-row names.Adcx ts = adcx ts
-row names.Adox ts = adox ts
-row names.Mulx ts = mulx ts
-row names.Mul ts = mul ts
-row names.Imul ts = imul ts
-row names.Shl ts = shl ts
-row names.Shr ts = shr ts
-row names.Shrd ts = shrd ts
-row names.Shlx ts = shlx ts
-row names.Shrx ts = shrx ts
-row names.Seto ts = set conds.O ts
-row names.Setno ts = set conds.No ts
-row names.Setc ts = set conds.C ts
-row names.Setnc ts = set conds.Nc ts
-row names.Setz ts = set conds.Z ts
-row names.Setnz ts = set conds.Nz ts
-row names.Cmovo ts = cmov conds.O ts
-row names.Cmovno ts = cmov conds.No ts
-row names.Cmovc ts = cmov conds.C ts
-row names.Cmovnc ts = cmov conds.Nc ts
-row names.Cmovz ts = cmov conds.Z ts
-row names.Cmovnz ts = cmov conds.Nz ts
-row names.Ret ts = plain instrs.Ret ts
+unfoldable pub instr_named : Mnemonic → List Token → Option Instr
+instr_named names.Mov ts = mov ts
+instr_named names.Movzx ts = movzx ts
+instr_named names.Lea ts = lea ts
+instr_named names.Not ts = un uns.Not ts
+instr_named names.Add ts = bin bins.Add ts
+instr_named names.Adc ts = bin bins.Adc ts
+instr_named names.Sub ts = bin bins.Sub ts
+instr_named names.Cmp ts = bin bins.Cmp ts
+instr_named names.Sbb ts = bin bins.Sbb ts
+instr_named names.Neg ts = un uns.Neg ts
+instr_named names.Inc ts = un uns.Inc ts
+instr_named names.Dec ts = un uns.Dec ts
+instr_named names.And ts = bin bins.And ts
+instr_named names.Or ts = bin bins.Or ts
+instr_named names.Xor ts = bin bins.Xor ts
+instr_named names.Test ts = test_row ts
+instr_named names.Clc ts = plain instrs.Clc ts
+instr_named names.Adcx ts = adcx ts
+instr_named names.Adox ts = adox ts
+instr_named names.Mulx ts = mulx ts
+instr_named names.Mul ts = mul ts
+instr_named names.Imul ts = imul ts
+instr_named names.Shl ts = shl ts
+instr_named names.Shr ts = shr ts
+instr_named names.Shrd ts = shrd ts
+instr_named names.Shlx ts = shlx ts
+instr_named names.Shrx ts = shrx ts
+instr_named names.Seto ts = set conds.O ts
+instr_named names.Setno ts = set conds.No ts
+instr_named names.Setc ts = set conds.C ts
+instr_named names.Setnc ts = set conds.Nc ts
+instr_named names.Setz ts = set conds.Z ts
+instr_named names.Setnz ts = set conds.Nz ts
+instr_named names.Cmovo ts = cmov conds.O ts
+instr_named names.Cmovno ts = cmov conds.No ts
+instr_named names.Cmovc ts = cmov conds.C ts
+instr_named names.Cmovnc ts = cmov conds.Nc ts
+instr_named names.Cmovz ts = cmov conds.Z ts
+instr_named names.Cmovnz ts = cmov conds.Nz ts
+instr_named names.Ret ts = plain instrs.Ret ts
 
 unfoldable pub instr_in : List Token → Option Instr
 instr_in [] = None
-instr_in (t ∷ ts) = mnemonic_named t.text >>= (λ m. row m ts)
+instr_in (t ∷ ts) = mnemonic_named t.text >>= (λ m. instr_named m ts)
