@@ -1,8 +1,7 @@
 -- The table of the commands: what stands on the line of each, and the command of `clap` that this makes. The words are
 -- this project's own, over `clap`'s definition of a command of simple words and options.
-use Rattle.std.specs.Prelude.{◌≡◌, ℕ, Bool, true, List, [], ◌∷◌, map, fold, codes, Option, Some, None, find}
+use Rattle.std.specs.Prelude.{ℕ, true, List, [], ◌∷◌, map, fold, codes, Option, Some, find}
 use Rattle.std.specs.Str.{bytes_eq}
-use Rattle.clap.specs.Walk.{Rule}
 use Rattle.clap.specs.Simple.{App, new_app, new_rule, with_rule}
 use Rattle.command_line.specs.declared.forms.Kind.{Kind}
 use Rattle.command_line.specs.declared.forms.Kind.TheVariants.{Search, Eval, Emulate, Show}
