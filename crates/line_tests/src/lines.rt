@@ -92,12 +92,20 @@ help => none
 
 fn text_of(alloc: Global, command: &Command) -> Result<String, AllocError> {
     match command {
-        Command::Search { program, asm } => format!(in alloc; "search {} {}", program.as_str(), asm.as_str()),
+        Command::Search { program, asm } => format!(in alloc;
+            "search {} {}",
+            program.as_str(),
+            asm.as_str()
+        ),
         Command::Eval { program, inputs } => {
             let text = format!(in alloc; "eval {}", program.as_str())?;
             with_words(text, inputs)
         }
-        Command::Emulate { program, asm, inputs } => {
+        Command::Emulate {
+            program,
+            asm,
+            inputs,
+        } => {
             let text = format!(in alloc; "emulate {} {}", program.as_str(), asm.as_str())?;
             with_words(text, inputs)
         }
