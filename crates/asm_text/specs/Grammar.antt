@@ -1,6 +1,6 @@
 -- What a line of a text may be, over its tokens: blank, one of the four header lines, or an instruction, which
 -- is its mnemonic and its operands with commas, the destination first (Intel Software Developer's Manual,
--- volume 2, section 3.1.1.1; the directives are those of the GNU assembler's manual).
+-- volume 1, section 1.3.3, and volume 2, section 3.1.1.3; the directives are those of the GNU assembler's manual).
 use Rattle.std.specs.Prelude.{◌≡◌, ◌<◌, ℕ, true, false, List, [], ◌∷◌, map, Option, Some, None, codes}
 use Rattle.base.specs.Identifiers.{is_identifier}
 use Rattle.x86_instr.specs.declared.operand.Reg.{Reg}
