@@ -1,5 +1,6 @@
 -- A drawn mutation fits the plan.
-use Rattle.std.proofs.Common.{◌≡◌, ℕ, ◌+◌, ◌-◌, ◌<◌, ◌≤◌, ◌%◌, Bool, true, false, List, length, arith, refl, sym, ap, subst}
+use Rattle.std.proofs.Common.{◌≡◌, ℕ, ◌+◌, ◌-◌, ◌<◌, ◌≤◌, ◌%◌, Bool, true, false, List, length, arith, refl, sym, ap}
+use Rattle.std.proofs.Common.{subst}
 use Rattle.std.specs.Prelude.{◌==◌, if◌then◌else◌, slice_index}
 use Rattle.word_program.specs.Accepted.{IsAccepted}
 use Rattle.word_program.specs.Program.{Source}
@@ -70,6 +71,6 @@ drawn_fits p slots words accepted legal =
     let n = slice_index words 1 in
     let there = slot_there p slots n legal accepted.some_ops in
     let within : n % length slots < length slots =
-        subst (λ (k : ℕ). k < length slots) (slot_is p slots n legal) there in
+    subst (λ (k : ℕ). k < length slots) (slot_is p slots n legal) there in
     kind_fits p slots (slice_index words 0 % 4 == 0) (slice_index words 0 % 4 == 1) (slice_index words 0 % 4 == 2)
     (n % length slots) (slice_index words 2) legal within

@@ -4,3 +4,5 @@ pub mod LegalLemmas
 pub mod WindowLaw
 pub mod Definers
 pub mod Differing
+pub mod Deciding
+pub mod SameSlots
