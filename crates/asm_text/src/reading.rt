@@ -10,6 +10,7 @@ ghost use Rattle.asm_text.specs.Texts.{Stands, Refuses};
 use crate::fault::TextFault;
 use crate::items::{Item, item_in};
 use asm_tokens::next_line;
+use base::MAX_LINES;
 use std::alloc::{AllocError, Global};
 use x86_instr::{Lines, Listing, ListingFault, Text};
 
@@ -39,7 +40,7 @@ struct Found {
 pub fn read(alloc: Global, bytes: &[u8]) -> Result<Listing, TextFault>
     requires { length bytes.now ≤ 2 ^ 32 - 2 }
     ensures ok { IfOk result (λ listing. Stands (lines bytes.now) listing) }
-    ensures rules { IfOk result (λ listing. (length listing.lines ≤ 65536) × (ends_at_ret listing.lines ≡ true)) }
+    ensures rules { IfOk result (λ listing. (length listing.lines ≤ MAX_LINES) × (ends_at_ret listing.lines ≡ true)) }
     ensures err { IfErr result (λ fault. Refuses (lines bytes.now) fault) }
 {
     read_listing(alloc, bytes)
@@ -50,7 +51,7 @@ pub fn read(alloc: Global, bytes: &[u8]) -> Result<Listing, TextFault>
 fn read_listing(alloc: Global, bytes: &[u8]) -> Result<Listing, TextFault>
     requires { length bytes.now ≤ 2 ^ 32 - 2 }
     ensures answer { Told result (answer bytes.now) }
-    ensures rules { IfOk result (λ listing. (length listing.lines ≤ 65536) × (ends_at_ret listing.lines ≡ true)) }
+    ensures rules { IfOk result (λ listing. (length listing.lines ≤ MAX_LINES) × (ends_at_ret listing.lines ≡ true)) }
 {
     match read_text(alloc, bytes) {
         Ok(found) => listing(alloc, found),
@@ -60,7 +61,7 @@ fn read_listing(alloc: Global, bytes: &[u8]) -> Result<Listing, TextFault>
 
 fn listing(alloc: Global, found: Found) -> Result<Listing, TextFault>
     ensures answer { result ≡ listing_answer found.name found.lines }
-    ensures rules { IfOk result (λ listing. (length listing.lines ≤ 65536) × (ends_at_ret listing.lines ≡ true)) }
+    ensures rules { IfOk result (λ listing. (length listing.lines ≤ MAX_LINES) × (ends_at_ret listing.lines ≡ true)) }
 {
     match Listing::new(alloc, found.name, found.lines) {
         Ok(listing) => Ok(listing),

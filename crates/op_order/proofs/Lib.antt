@@ -1,3 +1,4 @@
+-- The lemmas of this crate.
 pub mod Moves
 pub mod LastPlace
 pub mod LegalLemmas
