@@ -11,6 +11,7 @@ mod bits;
 mod body;
 mod copy;
 mod evaluation;
+mod fault_laws;
 mod inputs;
 mod lookup;
 mod missing;
@@ -22,6 +23,7 @@ mod reader;
 
 pub use copy::copy_form;
 pub use evaluation::{EvalFault, check_inputs, eval};
+pub use fault_laws::{first_fault_is_first, without_fault_nothing_fails};
 pub use operation::{Op, Operand, OperandList, Target, TargetList};
 pub use parameter::{Bounds, BoundsList, Param, Role};
 pub use program::Program;
