@@ -2,7 +2,7 @@ ghost use Rattle.std.specs.Prelude.{◌≡◌, Some, [], IfOk, option_map, fold}
 ghost use Rattle.serde_json.specs.View.{view, items_view};
 ghost use Rattle.word_program.specs.Walk.{Meets, walk, place_in};
 ghost use Rattle.fiat_json.specs.Shape.{list_of, raw_param, raw_op, raw_program, param_fault, op_fault, shape_fault};
-ghost use Rattle.fiat_json.specs.Shape.{with_param, with_op, parts_in};
+ghost use Rattle.fiat_json.specs.Shape.{overlap_said, with_param, with_op, parts_in};
 
 use crate::{bounds, values};
 use serde_json::Value;
@@ -10,6 +10,7 @@ use std::alloc::{AllocError, Global};
 use word_program::{
     Items, Place, ProgramFault, RawOp, RawOps, RawParam, RawParams, RawProgram, Section, Text,
 };
+use word_text::is_overlap;
 
 /// The parts of the document's object.
 #[derive(Clone, Copy, Drop)]
@@ -18,6 +19,24 @@ struct Parts<'v> {
     returns: &'v [Value],
     arguments: &'v [Value],
     body: &'v [Value],
+    overlap: Option<&'v str>,
+}
+
+/// The text that says whether outputs may overlap inputs, where the document has one.
+#[tactic(auto, unfolding(crate::specs::Shape::overlap_said))]
+fn overlap_said<'v>(value: Option<&'v Value>) -> Option<Option<&'v str>>
+    ensures { option_map (λ said. option_map (λ s. s.now) said) result
+        ≡ overlap_said (option_map (λ v. view v.now) value.entry) }
+{
+    let Some(value) = value else {
+        return Some(None);
+    };
+    let text = value.as_str()?;
+    if is_overlap(text) {
+        Some(Some(text))
+    } else {
+        None
+    }
 }
 
 #[tactic(auto, unfolding(crate::specs::Shape::parts_in))]
@@ -27,6 +46,7 @@ fn parts_in<'v>(value: &'v Value) -> Option<Parts<'v>>
       returns = list_of (items_view p.returns.now);
       arguments = list_of (items_view p.arguments.now);
       body = list_of (items_view p.body.now);
+      overlap = option_map (λ s. s.now) p.overlap;
     }) result ≡ parts_in
         (view value.now) }
 {
@@ -35,6 +55,7 @@ fn parts_in<'v>(value: &'v Value) -> Option<Parts<'v>>
         returns: values::list_at(value, "returns")?,
         arguments: values::list_at(value, "arguments")?,
         body: values::list_at(value, "body")?,
+        overlap: overlap_said(value.get("overlap"))?,
     })
 }
 
@@ -151,6 +172,16 @@ fn ops_in(alloc: Global, list: &[Value]) -> Result<RawOps, ProgramFault>
     Ok(ops)
 }
 
+/// A text of its own, where there is one.
+fn owned(alloc: Global, text: Option<&str>) -> Result<Option<Text>, AllocError>
+    ensures { IfOk result (λ owned. owned ≡ option_map (λ s. s.now) text.entry) }
+{
+    match text {
+        None => Ok(None),
+        Some(text) => Ok(Some(Text::from_str(alloc, text)?)),
+    }
+}
+
 /// The parts of the program that a document has, where it has their form.
 #[tactic(auto, unfolding(crate::specs::Shape::shape_fault, crate::specs::Shape::raw_program))]
 pub fn raw_program(alloc: Global, value: &Value) -> Result<RawProgram, ProgramFault>
@@ -168,6 +199,6 @@ pub fn raw_program(alloc: Global, value: &Value) -> Result<RawProgram, ProgramFa
         returns,
         arguments,
         body,
-        overlap: None,
+        overlap: owned(alloc, parts.overlap).map_err(memory)?,
     })
 }
