@@ -1,2 +1,3 @@
 pub mod Shape
 pub mod Reading
+pub mod Misshapen

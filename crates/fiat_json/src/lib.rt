@@ -5,9 +5,11 @@
 
 mod bounds;
 mod fault;
+mod laws;
 mod parts;
 mod reader;
 mod values;
 
 pub use fault::ReadFault;
+pub use laws::{first_fault_of_a_document_is_first, first_misshapen_part_is_the_fault};
 pub use reader::read_program;
