@@ -1,1 +1,4 @@
 pub mod MisshapenLemmas
+pub mod TokenCount
+pub mod ReadWidths
+pub mod ListWidths
