@@ -344,8 +344,8 @@ fn a_swap_whose_output_may_overlap_its_input(rt: HostRuntime) -> Result<(), Fail
             param: 1,
             word: 1 - number as u8,
         };
-        assert_eq!(rt; op.targets.items().first(), Some(&target));
-        assert_eq!(rt; op.args.items().first(), Some(&operand));
+        assert!(rt; op.targets.items().first() == Some(&target));
+        assert!(rt; op.args.items().first() == Some(&operand));
     }
     let program = read(rt.alloc(), COPY.as_bytes())?;
     assert!(rt; !program.overlap());
