@@ -16,3 +16,9 @@ pub mod WrittenKept
 pub mod SomeOps
 pub mod SameLemmas
 pub mod LookupLemmas
+pub mod FailingOrder
+pub mod FailingNames
+pub mod FailingParams
+pub mod FailingBody
+pub mod FailingWhole
+pub mod FailingLaws

@@ -5,3 +5,4 @@ pub mod Rules
 pub mod Accepted
 pub mod Evaluates
 pub mod Copy
+pub mod Failing
