@@ -10,3 +10,4 @@ pub mod StatedIsStart
 pub mod StuckLines
 pub mod Addresses
 pub mod StatedRows
+pub mod RunStates

@@ -16,6 +16,7 @@ mod cells;
 mod execution;
 mod laws;
 mod listing_run;
+mod run_laws;
 mod shifts;
 mod start;
 mod state;
@@ -27,4 +28,5 @@ pub use laws::{
     stuck_line_is_stuck,
 };
 pub use listing_run::{Stuck, run};
+pub use run_laws::states_follow_by_steps;
 pub use state::State;
