@@ -7,6 +7,8 @@ pub mod Entries
 pub mod Funnel
 pub mod FrameLimits
 pub mod StatedIsStart
+pub mod FreeStates
+pub mod StartsFrom
 pub mod StuckLines
 pub mod Addresses
 pub mod StatedRows

@@ -43,7 +43,7 @@ array_below (p ∷ ps) zero word h = omega arith
 array_below (p ∷ ps) (suc i) word h = let r : i < length ps = array_below ps i word h in omega (arith, r)
 
 -- so is one with a scalar
-scalar_below : (params : List Param) (i : ℕ) → 0 < words_if is_scalar params i → i < length params
+pub scalar_below : (params : List Param) (i : ℕ) → 0 < words_if is_scalar params i → i < length params
 scalar_below [] i h = absurd (omega arith)
 scalar_below (p ∷ ps) zero h = omega arith
 scalar_below (p ∷ ps) (suc i) h = let r : i < length ps = scalar_below ps i h in omega (arith, r)

@@ -6,14 +6,15 @@ use Rattle.x86_instr.specs.declared.line.Line.{Line}
 use Rattle.x86_meaning.specs.declared.state.State.{State}
 use Rattle.x86_meaning.specs.Machine.{step_of}
 use Rattle.x86_instr.specs.Listings.{is_ret}
-use Rattle.x86_meaning.specs.Runs.{Ended, run_from, states_of}
+use Rattle.x86_meaning.specs.Runs.{EndsKeeping, states_of}
 use Rattle.x86_instr.specs.Frame.{frame_of}
-use Rattle.x86_meaning.specs.Correct.{Returns}
+use Rattle.x86_meaning.specs.Correct.{Keeps, Returns}
 
--- the run from the start state s, as it is computed, ends with what the program asks for
+-- the run from the start state s, as it is computed, ends with what the program asks for, and keeps the memory in
+-- each of its states
 abbrev pub EndsReturning : Source → List Line → List ℕ → State → Type 0
-EndsReturning program lines inputs s = (t : State) × (run_from 1 lines s ≡ Ended t)
-    × Returns program (frame_of lines) inputs s t
+EndsReturning program lines inputs s = EndsKeeping (λ t. Keeps program.params (frame_of lines) s t.cells)
+    (λ t. Returns program (frame_of lines) inputs s t) 1 lines s
 
 -- the exact sum, with signs, of two words and a carry
 abbrev pub signed_sum : ℕ → ℕ → ℕ → ℤ

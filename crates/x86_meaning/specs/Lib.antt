@@ -7,3 +7,4 @@ pub mod Stated
 pub mod StatedCells
 pub mod Correct
 pub mod Laws
+pub mod StartLaws
