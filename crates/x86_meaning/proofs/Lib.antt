@@ -13,3 +13,7 @@ pub mod StuckLines
 pub mod Addresses
 pub mod StatedRows
 pub mod RunStates
+pub mod Refusing
+pub mod CopiedWord
+pub mod CorrectCopies
+pub mod CopiedInPlace

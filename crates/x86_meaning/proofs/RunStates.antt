@@ -13,10 +13,10 @@ use Rattle.x86_meaning.specs.Laws.{FollowsStep, LastState}
 
 -- ---- outcomes
 
-stuck_not_ended : (s t : State) (number : ℕ) → Stuck number s ≡ Ended t → ⊥
+pub stuck_not_ended : (s t : State) (number : ℕ) → Stuck number s ≡ Ended t → ⊥
 stuck_not_ended s t number e = cc
 
-ended_state : (s t : State) → Ended s ≡ Ended t → s ≡ t
+pub ended_state : (s t : State) → Ended s ≡ Ended t → s ≡ t
 ended_state s t e = cc
 
 -- ---- the last state
@@ -53,7 +53,7 @@ first_of_states (line ∷ lines) s = refl
 
 -- ---- steps
 
-none_at : (n : ℕ) (t : State) → slice_get [] n ≡ Some t → ⊥
+pub none_at : (n : ℕ) (t : State) → slice_get [] n ≡ Some t → ⊥
 none_at zero t e = cc
 none_at (suc n) t e = cc
 

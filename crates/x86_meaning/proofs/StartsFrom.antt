@@ -219,10 +219,10 @@ not_true false e = refl
 
 module _ (program : Source) (lines : List Line) (inputs : List ℕ) (regs : Reg → ℕ) (content : ℕ → ℕ)
     (meet : MeetConvention program (frame_of lines) inputs regs content) where
-  abbrev frame : ℕ
+  abbrev pub frame : ℕ
   frame = frame_of lines
 
-  abbrev first : State
+  abbrev pub first : State
   first = record {
     regs = sixteen regs;
     cf = None;
@@ -238,7 +238,7 @@ module _ (program : Source) (lines : List Line) (inputs : List ℕ) (regs : Reg 
   cell q = needed_cell program.params regs content frame q meet.frame_begins (frame_is lines).eights meet.stack_aligned
 
   -- the address of a word of an area, by what the registers are to hold
-  abbrev area_at : Area → ℕ → ℕ
+  abbrev pub area_at : Area → ℕ → ℕ
   area_at (Array param) word = array_word regs param word
   area_at Frame word = regs Rsp - frame + 8 * word
   area_at Return word = regs Rsp + 8 * word
@@ -259,7 +259,7 @@ module _ (program : Source) (lines : List Line) (inputs : List ℕ) (regs : Reg 
       let aligned : (regs Rsp + 8) % 16 ≡ 0 = meet.stack_aligned in
       inr ((omega (arith, h), omega (arith, h)), omega (arith, h, aligned))
 
-  area_holds : (area : Area) (word : ℕ) → word < area_words program.params frame area
+  pub area_holds : (area : Area) (word : ℕ) → word < area_words program.params frame area
       → map.get first.cells (area_at area word) ≡ Some (content (area_at area word))
   area_holds area word h =
       holds content (Needed (area_at area word)) (area_at area word) _ (cell (area_at area word)) (area_needed area word h)
@@ -332,7 +332,7 @@ module _ (program : Source) (lines : List Line) (inputs : List ℕ) (regs : Reg 
       let ends : array_word regs param (array_words program.params param - 1) + 8 ≤ 2 ^ 64 =
       meet.ends param _ (has_word is_array program.params param _ last) in omega (arith, h, ends)
 
-  first_start : IsStart program lines inputs first
+  pub first_start : IsStart program lines inputs first
   first_start = record {
     state = first_state;
     inputs_within = meet.inputs_within;

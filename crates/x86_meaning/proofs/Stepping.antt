@@ -38,3 +38,24 @@ pub on_load : (s : State) (address address' word : ℕ) (f : ℕ → State) (G :
     → G (f word) → MatchOption (option_map f (loaded s address)) ⊥ G
 on_load s address address' word f G e held g =
     on_operand (loaded s address) word f G (loaded_at s address address' word e held) g
+
+-- ---- what a run that goes through says of its next line
+
+-- a load from an address of the memory
+pub past_load : (s : State) (address address' word : ℕ) (f : ℕ → State) (G : State → Type 0) → address ≡ address'
+    → map.get s.cells address' ≡ Some word → MatchOption (option_map f (loaded s address)) ⊥ G → G (f word)
+past_load s address address' word f G e held h =
+    subst (λ o. MatchOption (option_map f o) ⊥ G) (loaded_at s address address' word e held) h
+
+-- a load from another address
+pub no_load : (s : State) (address address' : ℕ) (f : ℕ → State) (G : State → Type 0) → address ≡ address'
+    → map.get s.cells address' ≡ None → MatchOption (option_map f (loaded s address)) ⊥ G → ⊥
+no_load s address address' f G e absent h =
+    subst (λ o. MatchOption (option_map f o) ⊥ G) (ap (loaded s) e ∙ absent) h
+
+-- a store to an address of the memory
+pub past_store : (s : State) (address address' word : ℕ) (G : State → Type 0) → address ≡ address'
+    → IsSome (map.get s.cells address') → MatchOption (stored address word s) ⊥ G
+    → G (record s { cells = map.insert s.cells address' word })
+past_store s address address' word G e there h =
+    subst (λ o. MatchOption o ⊥ G) (ap (λ p. stored p word s) e ∙ stored_there s address' word there) h

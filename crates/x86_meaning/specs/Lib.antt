@@ -8,3 +8,4 @@ pub mod StatedCells
 pub mod Correct
 pub mod Laws
 pub mod StartLaws
+pub mod Refused
