@@ -67,7 +67,8 @@ meets = record {
   return_ends = omega arith;
   stack_aligned = refl;
   input_arrays = λ param word has.
-      by_param is_input_array (λ p w. 0 ≡ input_word program.params inputs p w) (λ is. absurd (false≢true is)) (λ is. refl)
+      by_param is_input_array (λ p w. 0 ≡ input_word program.params inputs p w) (λ is. absurd (false≢true is))
+      (λ is. refl)
       param word has;
   scalars = no_scalar (λ p _. regs (param_reg p) ≡ input_word program.params inputs p 0);
   off_stack = λ param word has on.

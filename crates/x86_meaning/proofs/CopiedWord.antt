@@ -1,6 +1,7 @@
 -- Listings that copy one word, or seem to: their runs from the stated start on the input 0.
 use Rattle.std.proofs.Common.{◌≡◌, ◌≢◌, ℕ, zero, suc, ◌+◌, ◌-◌, ◌*◌, ◌%◌, ◌^◌, ◌<◌, ◌≤◌, false, true, List, [], ◌∷◌}
-use Rattle.std.proofs.Common.{Option, Some, None, IsSome, is_some, MatchOption, MatchBool, Bool, refl, sym, ap, ◌∙◌, subst}
+use Rattle.std.proofs.Common.{Option, Some, None, IsSome, is_some, MatchOption, MatchBool, Bool, refl, sym, ap, ◌∙◌}
+use Rattle.std.proofs.Common.{subst}
 use Rattle.std.proofs.Common.{arith}
 use Rattle.std.specs.List.{AllByRecursion}
 use Rattle.std.specs.FinMap as map
@@ -38,7 +39,8 @@ inputs = 0 ∷ []
 
 -- the one output word is the word 0 of the parameter 0, and the one input word that of the parameter 1
 pub by_param : (has_role : Role → Bool) (C : ℕ → ℕ → Type 0) → (has_role Output ≡ true → C 0 0)
-    → (has_role InputArray ≡ true → C 1 0) → (param word : ℕ) → HasWord has_role program.params param word → C param word
+    → (has_role InputArray ≡ true → C 1 0) → (param word : ℕ) → HasWord has_role program.params param word
+    → C param word
 by_param has_role C output input zero word has =
     let below : word < 1 = has.1 in let e : 0 ≡ word = omega (arith, below) in subst (C 0) e (output has.0)
 by_param has_role C output input (suc zero) word has =
@@ -68,7 +70,8 @@ stated lines = is_stated program lines inputs _ _ (frame_of lines) limits refl r
 
 start : (lines : List Line) → IsStart program lines inputs (first lines)
 start lines =
-    stated_is_start program lines inputs (first lines) limits (omega arith, tt) (stated lines) (omega arith, omega arith, tt)
+    stated_is_start program lines inputs (first lines) limits (omega arith, tt) (stated lines)
+    (omega arith, omega arith, tt)
 
 cell : (lines : List Line) (address : ℕ)
     → map.get (first lines).cells address ≡ stated_cell program.params (frame_of lines) inputs address
@@ -100,15 +103,16 @@ module _ (lines : List Line) where
 -- a register that is to be given back does not keep what it held
 module _ (r : Reg) (to_output : reg (with_reg r 0 (first (copy_by r))) Rdi ≡ 65536)
     (lost : AllByRecursion (λ q. reg (with_reg r 0 (first (copy_by r))) q ≡ reg (first (copy_by r)) q) preserved → ⊥)
-    where
-  copy_loses : IsCorrect program (copy_by r) → ⊥
-  copy_loses correct =
-      let h = run (copy_by r) correct in
-      let loaded = past_load (first (copy_by r)) _ 131072 0 (λ word. with_reg r word (first (copy_by r))) _ refl
-      (cell (copy_by r) 131072) h.1 in
-      let stored = past_store (with_reg r 0 (first (copy_by r))) _ 65536 _ _ (ap (λ n. (n + 0 + 0) % 2 ^ 64) to_output)
-      (ap is_some (cell (copy_by r) 65536)) loaded.1 in
-      lost stored.registers
+  where
+    copy_loses : IsCorrect program (copy_by r) → ⊥
+    copy_loses correct =
+        let h = run (copy_by r) correct in
+        let loaded = past_load (first (copy_by r)) _ 131072 0 (λ word. with_reg r word (first (copy_by r))) _ refl
+        (cell (copy_by r) 131072) h.1 in
+        let address = ap (λ n. (n + 0 + 0) % 2 ^ 64) to_output in
+        let stored = past_store (with_reg r 0 (first (copy_by r))) _ 65536 _ _ address
+        (ap is_some (cell (copy_by r) 65536)) loaded.1 in
+        lost stored.registers
 
 pub registers_lost : AllByRecursion (λ r. IsCorrect program (copy_by r) → ⊥)
     (Rbx ∷ Rbp ∷ R12 ∷ R13 ∷ R14 ∷ R15 ∷ Rsp ∷ [])
@@ -165,7 +169,8 @@ input_left lines none = record {
 }
 
 -- a run that goes on behind a store of another word to the input's cell does not keep
-input_stored : (lines : List Line) → frame_of lines ≡ 0 → stated_cell program.params (frame_of lines) inputs 131072 ≡ Some 0
+input_stored : (lines : List Line) → frame_of lines ≡ 0
+    → stated_cell program.params (frame_of lines) inputs 131072 ≡ Some 0
     → (word : ℕ) → 0 < word → (s : State) → s.cells ≡ (first lines).cells → (rest : List Line)
     → Runs (Kept lines) (Returned lines) rest (record s { cells = map.insert s.cells 131072 word }) → ⊥
 input_stored lines none stands word other s cells rest h =
@@ -190,7 +195,8 @@ puts_input_back correct =
     let word = reg (first lines) Rax in
     let h = run lines correct in
     let s = with_reg Rcx 0 (first lines) in
-    let loaded = past_load (first lines) _ 131072 0 (λ w. with_reg Rcx w (first lines)) _ refl (cell lines 131072) h.1 in
+    let loaded = past_load (first lines) _ 131072 0 (λ w. with_reg Rcx w (first lines)) _ refl
+    (cell lines 131072) h.1 in
     input_stored lines refl refl word (omega arith) s refl (store Rsi 0 Rcx ∷ copy_by Rax)
     (past_store s _ 131072 word _ refl (ap is_some (cell lines 131072)) loaded.1)
 
@@ -202,7 +208,8 @@ complement_refused correct =
     let h = run lines correct in
     let word = 2 ^ 64 - 1 in
     let s = with_reg Rax word (with_reg Rax 0 (first lines)) in
-    let loaded = past_load (first lines) _ 131072 0 (λ w. with_reg Rax w (first lines)) _ refl (cell lines 131072) h.1 in
+    let loaded = past_load (first lines) _ 131072 0 (λ w. with_reg Rax w (first lines)) _ refl
+    (cell lines 131072) h.1 in
     let stored = past_store s _ 65536 word _ refl (ap is_some (cell lines 65536)) loaded.1.1 in
     let same : Some word ≡ Some 0 =
     sym (get_put_same (first lines).cells 65536 word) ∙ stored.outputs 0 0 (omega arith) in
@@ -210,5 +217,6 @@ complement_refused correct =
 
 pub nothing_refused : IsCorrect program (ret ∷ []) → ⊥
 nothing_refused correct =
-    let same : Some filling ≡ Some 0 = sym (cell (ret ∷ []) 65536) ∙ (run (ret ∷ []) correct).outputs 0 0 (omega arith) in
+    let same : Some filling ≡ Some 0 = sym (cell (ret ∷ []) 65536)
+    ∙ (run (ret ∷ []) correct).outputs 0 0 (omega arith) in
     let equal = other_words filling 0 same in omega (arith, equal)

@@ -1,5 +1,6 @@
 -- Correct copies of one word: their runs from every start.
-use Rattle.std.proofs.Common.{◌≡◌, ℕ, zero, suc, ◌+◌, ◌*◌, ◌^◌, ◌<◌, ◌≤◌, Bool, false, List, [], ◌∷◌, Option, Some, refl}
+use Rattle.std.proofs.Common.{◌≡◌, ℕ, zero, suc, ◌+◌, ◌*◌, ◌^◌, ◌<◌, ◌≤◌, Bool, false, List, [], ◌∷◌, Option, Some}
+use Rattle.std.proofs.Common.{refl}
 use Rattle.std.proofs.Common.{sym, ◌∙◌, subst, arith}
 use Rattle.std.specs.FinMap as map
 use Rattle.word_program.specs.Program.{Source}
@@ -57,30 +58,34 @@ module _ (overlap : Bool) (inputs : List ℕ) (s : State)
       let r7_word : r7 < 2 ^ 64 = start.state.registers Rdi in
       let after = keeps_put program lines inputs first start cells (Array 0) 0 input kept (omega arith) in (
         kept,
-        on_load (later r0 cells) _ (address_of first (frame_of lines) (Array 1) 0) input _ _ (omega (arith, r6_word)) held (
-          kept,
-          on_store (later input cells) _ (address_of first (frame_of lines) (Array 0) 0) input _ (omega (arith, r7_word))
-              (written_there program lines inputs first start cells (Array 0) 0 kept (omega arith))
-              record {
-                outputs = one_output overlap (λ param word.
-                    map.get (map.insert cells (address_of first (frame_of lines) (Array 0) 0) input)
-                    (address_of first (frame_of lines) (Array param) word) ≡ Some (output_word program inputs param word))
-                    (get_put_same cells (address_of first (frame_of lines) (Array 0) 0) input);
-                registers = (
-                  refl {a = r3},
-                  (
-                    refl {a = r5},
-                    (refl {a = r12}, (refl {a = r13}, (refl {a = r14}, (refl {a = r15}, (refl {a = r4}, tt))))),
-                  ),
-                );
-                keeps = after;
-              },
-        ),
+        on_load (later r0 cells) _ (address_of first (frame_of lines) (Array 1) 0) input _ _
+            (omega (arith, r6_word)) held (
+              kept,
+              on_store (later input cells) _ (address_of first (frame_of lines) (Array 0) 0) input _
+                  (omega (arith, r7_word))
+                  (written_there program lines inputs first start cells (Array 0) 0 kept (omega arith))
+                  record {
+                    outputs = one_output overlap (λ param word.
+                        map.get (map.insert cells (address_of first (frame_of lines) (Array 0) 0) input)
+                        (address_of first (frame_of lines) (Array param) word) ≡ Some
+                        (output_word program inputs param word))
+                        (get_put_same cells (address_of first (frame_of lines) (Array 0) 0) input);
+                    registers = (
+                      refl {a = r3},
+                      (
+                        refl {a = r5},
+                        (refl {a = r12}, (refl {a = r13}, (refl {a = r14}, (refl {a = r15}, (refl {a = r4}, tt))))),
+                      ),
+                    );
+                    keeps = after;
+                  },
+            ),
       )
 
   copy : IsStart program (copy_by Rax) inputs first
       → Runs (λ t. Keeps program.params 0 first t.cells) (λ t. Returns program 0 inputs first t) (copy_by Rax) first
-  copy start = copies (copy_by Rax) refl start s.cells (keeps_start program.params 0 first) (start.arrays 1 0 (omega arith))
+  copy start = copies (copy_by Rax) refl start s.cells (keeps_start program.params 0 first)
+      (start.arrays 1 0 (omega arith))
 
   -- the same behind a store to the output, where the input is apart
   copy_behind_store : overlap ≡ false → IsStart program copy_after_write inputs first

@@ -1,6 +1,7 @@
 -- That start states are free: from one start others follow, by other words in what the calling convention leaves free.
 use Rattle.std.proofs.Common.{◌≡◌, ◌≢◌, ℕ, zero, suc, ◌+◌, ◌*◌, ◌%◌, ◌^◌, ◌<◌, ◌≤◌, ◌==◌, Bool, true, false, cond, not}
-use Rattle.std.proofs.Common.{List, [], ◌∷◌, length, Option, Some, None, IsSome, IfSome, is_some, slice_get, slice_index_or}
+use Rattle.std.proofs.Common.{List, [], ◌∷◌, length, Option, Some, None, IsSome, IfSome, is_some, slice_get}
+use Rattle.std.proofs.Common.{slice_index_or}
 use Rattle.std.proofs.Common.{slice_set, if◌then◌else◌, IsTrue, refl, sym, ap, ◌∙◌, subst, arith, length-set}
 use Rattle.std.specs.Option.{option_map_or, IsSomeAnd}
 use Rattle.std.specs.FinMap as map
@@ -118,7 +119,8 @@ written_words_small q r word s state small true is =
     subst (λ p. IsWord (reg (with_reg r word s) p)) (sym same)
     (subst IsWord (sym (reg_written r word s state.sixteen)) small)
 written_words_small q r word s state small false is =
-    let other : q ≢ r = λ e. let n : number_of q ≡ number_of r = ap number_of e in absurd (grind (arith, nat_tests, is, n)) in
+    let other : q ≢ r = λ e. let n : number_of q ≡ number_of r = ap number_of e in
+    absurd (grind (arith, nat_tests, is, n)) in
     subst IsWord (sym (reg_other q r word s other)) (state.registers q)
 
 pub with_reg_state : (r : Reg) (word : ℕ) (s : State) → IsState s → IsWord word → IsState (with_reg r word s)

@@ -78,8 +78,8 @@ pub registers_refused : (program : Source) (lines : List Line) (inputs : List �
     → AllByRecursion (λ r. reg t r ≢ reg s r → IsCorrect program lines → ⊥)
     (Rbx ∷ Rbp ∷ R12 ∷ R13 ∷ R14 ∷ R15 ∷ Rsp ∷ [])
 registers_refused program lines inputs s t start ends =
-    let back = λ (correct : IsCorrect program lines). (returned program lines inputs s start correct t ends).registers in
-    (
+    let back = λ (correct : IsCorrect program lines).
+    (returned program lines inputs s start correct t ends).registers in (
       λ lost correct. lost (back correct).0,
       (
         λ lost correct. lost (back correct).1.0,
@@ -89,7 +89,10 @@ registers_refused program lines inputs s t start ends =
             λ lost correct. lost (back correct).1.1.1.0,
             (
               λ lost correct. lost (back correct).1.1.1.1.0,
-              (λ lost correct. lost (back correct).1.1.1.1.1.0, (λ lost correct. lost (back correct).1.1.1.1.1.1.0, tt)),
+              (
+                λ lost correct. lost (back correct).1.1.1.1.1.0,
+                (λ lost correct. lost (back correct).1.1.1.1.1.1.0, tt),
+              ),
             ),
           ),
         ),

@@ -22,7 +22,8 @@ use Rattle.x86_instr.specs.Frame.{frame_of}
 use Rattle.x86_meaning.specs.declared.state.State.{State}
 use Rattle.x86_meaning.specs.Machine.{Cells, IsState, IsWord, reg}
 use Rattle.x86_meaning.specs.Start.{Area, Array, Frame, Return, param_reg, words_if, array_words, input_array_words}
-use Rattle.x86_meaning.specs.Start.{area_words, address_of, is_output_array, are_arrays_apart, is_apart, AreApart, IsStart}
+use Rattle.x86_meaning.specs.Start.{area_words, address_of, is_output_array, are_arrays_apart, is_apart, AreApart}
+use Rattle.x86_meaning.specs.Start.{IsStart}
 use Rattle.x86_meaning.specs.StartLaws.{HasWord, is_array, IsOnStack, IsNeeded, MeetConvention, StartsWith, array_word}
 use Rattle.x86_meaning.specs.StatedCells.{sixteen, cells_from}
 use Rattle.x86_meaning.proofs.FrameLimits.{frame_is}
@@ -162,7 +163,8 @@ module _ (params : List Param) (regs : Reg → ℕ) (content : ℕ → ℕ) wher
   unfolding needed_cells
   needed_cell frame q begins eights aligned =
       renamed content (InArrays (length params) q ⊎ InRow (regs Rsp - frame) (frame / 8 + 1) q)
-      (IsNeeded params frame regs q) q _ (is_needed frame q begins eights aligned) (needed_is frame q begins eights aligned)
+      (IsNeeded params frame regs q) q _ (is_needed frame q begins eights aligned)
+      (needed_is frame q begins eights aligned)
       (put_row content (InArrays (length params) q) q (regs Rsp - frame) (frame / 8 + 1) (arrays_put (length params))
       (put_arrays (length params) q))
 
@@ -262,7 +264,8 @@ module _ (program : Source) (lines : List Line) (inputs : List ℕ) (regs : Reg 
   pub area_holds : (area : Area) (word : ℕ) → word < area_words program.params frame area
       → map.get first.cells (area_at area word) ≡ Some (content (area_at area word))
   area_holds area word h =
-      holds content (Needed (area_at area word)) (area_at area word) _ (cell (area_at area word)) (area_needed area word h)
+      holds content (Needed (area_at area word)) (area_at area word) _ (cell (area_at area word))
+      (area_needed area word h)
 
   needed_address : (q : ℕ) → Needed q → IsWord q × (q % 8 ≡ 0)
   needed_address q (inl h) =
@@ -337,7 +340,8 @@ module _ (program : Source) (lines : List Line) (inputs : List ℕ) (regs : Reg 
     state = first_state;
     inputs_within = meet.inputs_within;
     there = λ area word h.
-        subst (λ a. IsSome (map.get first.cells a)) (sym (address_same area word)) (ap is_some (area_holds area word h));
+        subst (λ a. IsSome (map.get first.cells a)) (sym (address_same area word))
+        (ap is_some (area_holds area word h));
     aligned = λ param h. ap (λ r. r % 8) (sixteen_word regs (param_reg param))
         ∙ meet.aligned param 0 (has_word is_array program.params param 0 h);
     ends = λ param h. subst (λ r. r + 8 * array_words program.params param ≤ 2 ^ 64)

@@ -235,7 +235,8 @@ pub is_stated : (program : Source) (lines : List Line) (inputs regs : List ℕ) 
     → IsStated program lines inputs (record { regs = regs; cf = None; of = None; zf = None; cells = cells })
 is_stated program lines inputs regs cells frame ok is_frame are_regs are_cells = record {
   sixteen = ap length are_regs;
-  registers = λ r. ap (λ words. slice_index words (number_of r)) are_regs ∙ sixteen_word (stated_reg program.params inputs) r;
+  registers = λ r. ap (λ words. slice_index words (number_of r)) are_regs
+      ∙ sixteen_word (stated_reg program.params inputs) r;
   cf = refl;
   of = refl;
   zf = refl;

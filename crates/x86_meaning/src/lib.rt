@@ -17,7 +17,6 @@ mod correct_laws;
 mod execution;
 mod laws;
 mod listing_run;
-mod refusal_laws;
 mod run_laws;
 mod shifts;
 mod start;
@@ -25,15 +24,14 @@ mod start_laws;
 mod state;
 
 pub use cells::Cells;
-pub use correct_laws::correct_listing_ends;
+pub use correct_laws::{
+    changed_cell_is_refused, copy_keeps_registers, copy_keeps_the_input,
+    copy_with_overlap_reads_first, correct_listing_ends, lost_register_is_refused,
+    stuck_run_is_refused, wrong_output_is_refused,
+};
 pub use execution::step;
 pub use laws::{overflow_is_signed, stuck_line_is_stuck};
 pub use listing_run::{Stuck, run};
-pub use refusal_laws::{
-    changed_cell_is_refused, copy_keeps_registers, copy_keeps_the_input,
-    copy_with_overlap_reads_first, lost_register_is_refused, stuck_run_is_refused,
-    wrong_output_is_refused,
-};
 pub use run_laws::states_follow_by_steps;
 pub use start_laws::{
     flags_are_free, functions_can_start, functions_start_anywhere, other_cells_are_free,

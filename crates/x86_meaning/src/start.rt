@@ -218,7 +218,8 @@ impl State {
     ) -> Result<State, EvalFault>
         ensures stated { IfOk result (λ state.
             spec.IsStated program.entry.now listing.entry.now.lines inputs.entry.now state) }
-        ensures start { IfOk result (λ state. IsStart program.entry.now listing.entry.now.lines inputs.entry.now state) }
+        ensures start { IfOk result (λ state.
+            IsStart program.entry.now listing.entry.now.lines inputs.entry.now state) }
         ensures err { IfErr result (λ fault. Refuses program.entry.now inputs.entry.now fault) }
     {
         check_inputs(alloc, program, inputs)?;

@@ -1,7 +1,7 @@
 -- That a copy has to leave the input, and to store it.
 use Rattle.x86_meaning.proofs.CopiedWord.{reads_behind, stores_to_input, puts_input_back, complement_refused}
 use Rattle.x86_meaning.proofs.CopiedWord.{nothing_refused}
-use Rattle.x86_meaning.proofs.refusal_laws.copy_keeps_the_input.Goals as goal
+use Rattle.x86_meaning.proofs.correct_laws.copy_keeps_the_input.Goals as goal
 
 pub returns-clause-behind : goal.returns-clause-behind
 returns-clause-behind c = reads_behind
