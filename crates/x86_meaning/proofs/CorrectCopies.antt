@@ -26,6 +26,12 @@ one_output overlap C c zero word h = let e : 0 ≡ word = omega (arith, h) in su
 one_output overlap C c (suc zero) word h = absurd (omega (arith, h))
 one_output overlap C c (suc (suc param)) word h = absurd (omega (arith, h))
 
+-- the run from the state goes through, if it is a start
+abbrev GoesThrough : Source → List Line → List ℕ → State → Type 0
+GoesThrough program lines inputs s = IsStart program lines inputs s
+    → Runs (λ t. Keeps program.params (frame_of lines) s t.cells)
+    (λ t. Returns program (frame_of lines) inputs s t) lines s
+
 module _ (overlap : Bool) (inputs : List ℕ) (s : State)
     (r0 r1 r2 r3 r4 r5 r6 r7 r8 r9 r10 r11 r12 r13 r14 r15 : ℕ) where
   abbrev program : Source
@@ -82,14 +88,12 @@ module _ (overlap : Bool) (inputs : List ℕ) (s : State)
             ),
       )
 
-  copy : IsStart program (copy_by Rax) inputs first
-      → Runs (λ t. Keeps program.params 0 first t.cells) (λ t. Returns program 0 inputs first t) (copy_by Rax) first
+  copy : GoesThrough program (copy_by Rax) inputs first
   copy start = copies (copy_by Rax) refl start s.cells (keeps_start program.params 0 first)
       (start.arrays 1 0 (omega arith))
 
   -- the same behind a store to the output, where the input is apart
-  copy_behind_store : overlap ≡ false → IsStart program copy_after_write inputs first
-      → Runs (λ t. Keeps program.params 0 first t.cells) (λ t. Returns program 0 inputs first t) copy_after_write first
+  copy_behind_store : overlap ≡ false → GoesThrough program copy_after_write inputs first
   copy_behind_store none start =
       let r7_word : r7 < 2 ^ 64 = start.state.registers Rdi in
       let kept = keeps_start program.params 0 first in
@@ -105,23 +109,16 @@ module _ (overlap : Bool) (inputs : List ℕ) (s : State)
 abbrev with_regs : List ℕ → State → State
 with_regs regs s = record { regs = regs; cf = s.cf; of = s.of; zf = s.zf; cells = s.cells }
 
--- a listing without a frame is correct where its run goes through from every start whose registers are sixteen words
+-- a listing is correct where its run goes through from every start whose registers are sixteen words
 by_registers : (program : Source) (lines : List Line)
     → ((inputs : List ℕ) (s : State) (r0 r1 r2 r3 r4 r5 r6 r7 r8 r9 r10 r11 r12 r13 r14 r15 : ℕ)
-    → IsStart program lines inputs (with_regs (r0 ∷ r1 ∷ r2 ∷ r3 ∷ r4 ∷ r5 ∷ r6 ∷ r7 ∷ r8 ∷ r9 ∷ r10 ∷ r11 ∷ r12 ∷ r13
-    ∷ r14 ∷ r15 ∷ []) s)
-    → Runs (λ t. Keeps program.params (frame_of lines) (with_regs (r0 ∷ r1 ∷ r2 ∷ r3 ∷ r4 ∷ r5 ∷ r6 ∷ r7 ∷ r8 ∷ r9
-    ∷ r10 ∷ r11 ∷ r12 ∷ r13 ∷ r14 ∷ r15 ∷ []) s) t.cells)
-    (λ t. Returns program (frame_of lines) inputs (with_regs (r0 ∷ r1 ∷ r2 ∷ r3 ∷ r4 ∷ r5 ∷ r6 ∷ r7 ∷ r8 ∷ r9
-    ∷ r10 ∷ r11 ∷ r12 ∷ r13 ∷ r14 ∷ r15 ∷ []) s) t) lines
-    (with_regs (r0 ∷ r1 ∷ r2 ∷ r3 ∷ r4 ∷ r5 ∷ r6 ∷ r7 ∷ r8 ∷ r9 ∷ r10 ∷ r11 ∷ r12 ∷ r13 ∷ r14 ∷ r15 ∷ []) s))
+    → GoesThrough program lines inputs (with_regs (r0 ∷ r1 ∷ r2 ∷ r3 ∷ r4 ∷ r5 ∷ r6 ∷ r7 ∷ r8 ∷ r9 ∷ r10 ∷ r11 ∷ r12
+    ∷ r13 ∷ r14 ∷ r15 ∷ []) s))
     → IsCorrect program lines
 by_registers program lines runs = record {
   runs = λ inputs s start.
-      by_sixteen (λ regs. IsStart program lines inputs (with_regs regs s)
-      → Runs (λ t. Keeps program.params (frame_of lines) (with_regs regs s) t.cells)
-      (λ t. Returns program (frame_of lines) inputs (with_regs regs s) t) lines (with_regs regs s))
-      s.regs start.state.sixteen (runs inputs s) start;
+      by_sixteen (λ regs. GoesThrough program lines inputs (with_regs regs s)) s.regs start.state.sixteen
+      (runs inputs s) start;
 }
 
 pub copy_is_correct : (overlap : Bool) → IsCorrect (copied_word overlap) (copy_by Rax)

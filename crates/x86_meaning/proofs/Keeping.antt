@@ -67,7 +67,7 @@ output_role_is InputArray n word h = absurd (omega arith)
 output_role_is InputScalar n word h = absurd (omega arith)
 
 -- the same of a parameter that may be missing
-output_is_at : (o : Option Param) (word : ℕ)
+pub output_is_at : (o : Option Param) (word : ℕ)
     → word < option_map_or (λ p. if is_output p.role then length p.bounds else 0) o 0
     → option_map_or (λ p. is_output p.role) o false ≡ true
 output_is_at None word h = absurd (omega arith)
@@ -107,11 +107,11 @@ one_role_at None i j h k = omega arith
 one_role_at (Some p) i j h k = one_role p.role (length p.bounds) i j h k
 
 -- an array is known by its parameter
-array_number : {p q : ℕ} → Array p ≡ Array q → p ≡ q
+pub array_number : {p q : ℕ} → Array p ≡ Array q → p ≡ q
 array_number {p} {q} e = cc
 
 -- the frame is no array
-frame-ne-array : {p : ℕ} → Frame ≢ Array p
+pub frame-ne-array : {p : ℕ} → Frame ≢ Array p
 frame-ne-array {p} e = cc
 
 -- no array is both an output and an input

@@ -9,6 +9,7 @@ pub mod FrameLimits
 pub mod StatedIsStart
 pub mod FreeStates
 pub mod StartsFrom
+pub mod StartsMeet
 pub mod StuckLines
 pub mod Addresses
 pub mod StatedRows

@@ -7,7 +7,7 @@ use Rattle.std.specs.Prelude.{◌↔◌}
 use Rattle.std.specs.Option.{option_map_or, IsSomeAnd}
 use Rattle.std.specs.FinMap as map
 use Rattle.std.specs.Ordering.{nat_cmp}
-use Rattle.std.proofs.lemmas.Bool.{cases_eq, false≢true}
+use Rattle.std.proofs.lemmas.Bool.{cases_eq, false≢true, not-true}
 use Rattle.std.proofs.lemmas.Bool.Decides.{nat_tests}
 use Rattle.std.proofs.Math.Logic.{⊎_elim}
 use Rattle.word_program.specs.declared.parameter.Param.{Param}
@@ -213,10 +213,6 @@ as_input : (o : Option Param) (word : ℕ) → option_map_or (λ p. is_output p.
 as_input None word is h = h
 as_input (Some p) word is h = role_input p.role (length p.bounds) word is h
 
-not_true : (b : Bool) → not b ≡ true → b ≡ false
-not_true true e = cc
-not_true false e = refl
-
 -- ---- the start
 
 module _ (program : Source) (lines : List Line) (inputs : List ℕ) (regs : Reg → ℕ) (content : ℕ → ℕ)
@@ -294,10 +290,10 @@ module _ (program : Source) (lines : List Line) (inputs : List ℕ) (regs : Reg 
       meet.outputs_apart p q i j other (as_output (slice_get program.params p) i e h)
       (as_output (slice_get program.params q) j f k) same
   arrays_differ p q i j true false e f other apart h k same =
-      meet.inputs_apart (not_true program.overlap apart) p q i j (as_output (slice_get program.params p) i e h)
+      meet.inputs_apart (not-true program.overlap apart) p q i j (as_output (slice_get program.params p) i e h)
       (as_input (slice_get program.params q) j f k) same
   arrays_differ p q i j false true e f other apart h k same =
-      meet.inputs_apart (not_true program.overlap apart) q p j i (as_output (slice_get program.params q) j f k)
+      meet.inputs_apart (not-true program.overlap apart) q p j i (as_output (slice_get program.params q) j f k)
       (as_input (slice_get program.params p) i e h) (sym same)
   arrays_differ p q i j false false e f other apart h k same = absurd (false≢true apart)
 

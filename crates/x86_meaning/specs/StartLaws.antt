@@ -2,7 +2,7 @@
 -- the calling convention (System V AMD64 psABI, sections 3.2.2 and 3.2.3).
 use Rattle.std.specs.Prelude.{◌≡◌, ◌≢◌, ℕ, ◌+◌, ◌-◌, ◌*◌, ◌%◌, ◌^◌, ◌<◌, ◌≤◌, ◌↔◌, Bool, false, not, List, [], ◌∷◌}
 use Rattle.std.specs.Prelude.{length, Some, slice_get, IsTrue, IsSome, IfSome, ◌⊎◌}
-use Rattle.std.specs.Option.{IsSomeAnd}
+use Rattle.std.specs.Option.{IsSomeAnd, option_map_or}
 use Rattle.std.specs.FinMap as map
 use Rattle.word_program.specs.declared.parameter.Param.{Param}
 use Rattle.word_program.specs.declared.parameter.Role.{Role}
@@ -92,3 +92,7 @@ pub record StartsWith (program : Source) (lines : List Line) (inputs : List ℕ)
   pub addresses : (address : ℕ) → IsSome (map.get state.cells address)
       ↔ IsNeeded program.params (frame_of lines) regs address
   pub words : (address : ℕ) → IfSome (map.get state.cells address) (λ word. word ≡ content address)
+
+-- the word at an address of the state's memory, and 0 where it has none
+abbrev pub word_at : State → ℕ → ℕ
+word_at s address = option_map_or (λ word. word) (map.get s.cells address) 0

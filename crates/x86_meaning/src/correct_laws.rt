@@ -31,7 +31,8 @@ pub fn stuck_run_is_refused()
         → (number : ℕ) (t : State) → run_from 1 lines s ≡ Stuck number t → IsCorrect program lines → ⊥ }
 {}
 
-/// Nor is one whose run from some start ends with another word than the program's in a cell of an output.
+/// A listing whose run from some start ends with another word than the program's in a cell of an output is not
+/// correct.
 pub fn wrong_output_is_refused()
     ensures { (program : Source) (lines : List Line) (inputs : List ℕ) (s t : State) → IsStart program lines inputs s
         → run_from 1 lines s ≡ Ended t → (param word : ℕ) → HasWord is_output program.params param word
@@ -39,8 +40,8 @@ pub fn wrong_output_is_refused()
         → IsCorrect program lines → ⊥ }
 {}
 
-/// Nor is one whose run from some start ends with another word than at the start in `rbx`, `rbp`, `r12`, `r13`,
-/// `r14`, `r15` or `rsp`.
+/// A listing whose run from some start ends with another word than at the start in `rbx`, `rbp`, `r12`, `r13`,
+/// `r14`, `r15` or `rsp` is not correct.
 pub fn lost_register_is_refused()
     ensures { (program : Source) (lines : List Line) (inputs : List ℕ) (s t : State) → IsStart program lines inputs s
         → run_from 1 lines s ≡ Ended t
@@ -48,8 +49,8 @@ pub fn lost_register_is_refused()
         (Rbx ∷ Rbp ∷ R12 ∷ R13 ∷ R14 ∷ R15 ∷ Rsp ∷ []) }
 {}
 
-/// Nor is one of whose runs from a start some state has another word than the start in a cell outside the outputs and
-/// the frame, also where a later state has the old word again; or has other addresses than the start.
+/// A listing is not correct where some state of a run from a start has another word than the start in a cell outside
+/// the outputs and the frame, also where a later state has the old word again, or has other addresses.
 pub fn changed_cell_is_refused()
     ensures words { (program : Source) (lines : List Line) (inputs : List ℕ) (s t : State)
         → IsStart program lines inputs s → (n : ℕ) → slice_get (states_of lines s) n ≡ Some t
@@ -70,19 +71,23 @@ pub fn copy_keeps_registers()
     ensures stack { IsCorrect (copied_word false) copy_with_stack_moved → ⊥ }
 {}
 
-/// No listing is a correct copy of one word that begins with a read behind the input array, or with a store to it,
-/// nor is one that puts the old word back; nor one that stores another word, or none.
-pub fn copy_keeps_the_input()
+/// No listing is a correct copy of one word that begins with a read behind the input array, or with a store to it;
+/// nor is one that puts the old word back.
+pub fn copy_leaves_the_input()
     ensures behind { (lines : List Line) → IsCorrect (copied_word false) (load Rax Rsi 1 ∷ lines) → ⊥ }
-    ensures input { (lines : List Line) → IsCorrect (copied_word false) (store Rsi 0 Rax ∷ lines) → ⊥ }
+    ensures stored { (lines : List Line) → IsCorrect (copied_word false) (store Rsi 0 Rax ∷ lines) → ⊥ }
     ensures put_back { IsCorrect (copied_word false) copy_with_input_put_back → ⊥ }
-    ensures complement { IsCorrect (copied_word false) copy_of_complement → ⊥ }
-    ensures nothing { IsCorrect (copied_word false) (ret ∷ []) → ⊥ }
+{}
+
+/// A copy of one word that stores another word, or none, is not correct.
+pub fn copy_stores_the_output()
+    ensures other_word { IsCorrect (copied_word false) copy_of_complement → ⊥ }
+    ensures no_word { IsCorrect (copied_word false) (ret ∷ []) → ⊥ }
 {}
 
 /// A copy of one word that writes the output before it reads the input is correct where the two do not overlap, and
 /// is not where they may. One that reads first is correct in both cases.
-pub fn copy_with_overlap_reads_first()
+pub fn copy_in_place_reads_first()
     ensures apart { IsCorrect (copied_word false) copy_after_write }
     ensures overlapping { IsCorrect (copied_word true) copy_after_write → ⊥ }
     ensures reads_first { IsCorrect (copied_word true) (copy_by Rax) }

@@ -25,8 +25,8 @@ mod state;
 
 pub use cells::Cells;
 pub use correct_laws::{
-    changed_cell_is_refused, copy_keeps_registers, copy_keeps_the_input,
-    copy_with_overlap_reads_first, correct_listing_ends, lost_register_is_refused,
+    changed_cell_is_refused, copy_in_place_reads_first, copy_keeps_registers,
+    copy_leaves_the_input, copy_stores_the_output, correct_listing_ends, lost_register_is_refused,
     stuck_run_is_refused, wrong_output_is_refused,
 };
 pub use execution::step;
@@ -35,6 +35,6 @@ pub use listing_run::{Stuck, run};
 pub use run_laws::states_follow_by_steps;
 pub use start_laws::{
     flags_are_free, functions_can_start, functions_start_anywhere, other_cells_are_free,
-    other_registers_are_free, stated_state_is_start,
+    other_registers_are_free, starts_meet_the_convention, stated_state_is_start,
 };
 pub use state::State;

@@ -9,9 +9,9 @@ ghost use Rattle.x86_instr.specs.declared.line.Line.{Line};
 ghost use Rattle.x86_instr.specs.declared.operand.Reg.{Reg};
 ghost use Rattle.x86_instr.specs.Frame.{frame_of};
 ghost use Rattle.x86_meaning.specs.declared.state.State.{State};
-ghost use Rattle.x86_meaning.specs.Machine.{IsWord, with_reg};
+ghost use Rattle.x86_meaning.specs.Machine.{IsWord, reg, with_reg};
 ghost use Rattle.x86_meaning.specs.Start.{IsStart};
-ghost use Rattle.x86_meaning.specs.StartLaws.{IsFreeRegister, IsNoInput, MeetConvention, StartsWith};
+ghost use Rattle.x86_meaning.specs.StartLaws.{IsFreeRegister, IsNeeded, IsNoInput, MeetConvention, StartsWith, word_at};
 ghost use Rattle.x86_meaning.specs.Stated.{AreParams, AreWords, IsStated};
 
 /// The stated start state of a listing, for a program of at most six parameters with arrays of at most 32
@@ -62,4 +62,14 @@ pub fn other_cells_are_free()
 pub fn functions_start_anywhere()
     ensures { (program : Source) (lines : List Line) (inputs : List ℕ) (regs : Reg → ℕ) (content : ℕ → ℕ)
         → MeetConvention program (frame_of lines) inputs regs content → StartsWith program lines inputs regs content }
+{}
+
+/// And there is no other start: the registers and the memory of each meet the convention, and the memory has the
+/// arrays, the frame and the return cell.
+pub fn starts_meet_the_convention()
+    ensures meet { (program : Source) (lines : List Line) (inputs : List ℕ) (s : State) → IsStart program lines inputs s
+        → MeetConvention program (frame_of lines) inputs (reg s) (word_at s) }
+    ensures there { (program : Source) (lines : List Line) (inputs : List ℕ) (s : State)
+        → IsStart program lines inputs s
+        → (address : ℕ) → IsNeeded program.params (frame_of lines) (reg s) address → IsSome (map.get s.cells address) }
 {}

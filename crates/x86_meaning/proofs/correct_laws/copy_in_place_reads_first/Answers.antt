@@ -2,7 +2,7 @@
 use Rattle.std.proofs.Common.{true}
 use Rattle.x86_meaning.proofs.CopiedInPlace.{write_first_refused}
 use Rattle.x86_meaning.proofs.CorrectCopies.{copy_is_correct, copy_after_write_is_correct}
-use Rattle.x86_meaning.proofs.correct_laws.copy_with_overlap_reads_first.Goals as goal
+use Rattle.x86_meaning.proofs.correct_laws.copy_in_place_reads_first.Goals as goal
 
 pub returns-clause-apart : goal.returns-clause-apart
 returns-clause-apart c = copy_after_write_is_correct
