@@ -1,9 +1,8 @@
 -- A copy of one word that writes before it reads, where output and input are one array.
-use Rattle.std.proofs.Common.{◌≡◌, ◌≢◌, ℕ, zero, suc, ◌+◌, ◌*◌, ◌%◌, ◌^◌, ◌<◌, ◌≤◌, true, false, List, [], ◌∷◌, Some}
+use Rattle.std.proofs.Common.{◌≡◌, ℕ, ◌%◌, true, List, [], ◌∷◌, Some}
 use Rattle.std.proofs.Common.{is_some, refl, sym, ap, ◌∙◌, arith}
 use Rattle.std.proofs.lemmas.Bool.{false≢true}
 use Rattle.std.specs.FinMap as map
-use Rattle.word_program.specs.declared.parameter.Role.TheVariants.{Output, InputArray}
 use Rattle.word_program.specs.Program.{Source}
 use Rattle.word_program.specs.Values.{is_output, is_input_array, is_scalar, input_word}
 use Rattle.x86_instr.specs.declared.operand.Reg.{Reg}
@@ -11,7 +10,7 @@ use Rattle.x86_instr.specs.declared.operand.Reg.TheVariants.{Rax, Rsp, Rsi, Rdi}
 use Rattle.x86_meaning.specs.declared.state.State.{State}
 use Rattle.x86_meaning.specs.Machine.{Cells, IsWord, with_reg}
 use Rattle.x86_meaning.specs.Start.{Array, param_reg}
-use Rattle.x86_meaning.specs.StartLaws.{HasWord, is_array, IsOnStack, MeetConvention, array_word}
+use Rattle.x86_meaning.specs.StartLaws.{HasWord, is_array, MeetConvention, array_word}
 use Rattle.x86_meaning.specs.Correct.{IsCorrect}
 use Rattle.x86_meaning.specs.Refused.{copied_word, copy_after_write}
 use Rattle.x86_meaning.proofs.CopiedWord.{by_param, other_words}

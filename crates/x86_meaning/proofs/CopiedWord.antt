@@ -1,6 +1,6 @@
 -- Listings that copy one word, or seem to: their runs from the stated start on the input 0.
 use Rattle.std.proofs.Common.{◌≡◌, ◌≢◌, ℕ, zero, suc, ◌+◌, ◌-◌, ◌*◌, ◌%◌, ◌^◌, ◌<◌, ◌≤◌, false, true, List, [], ◌∷◌}
-use Rattle.std.proofs.Common.{Option, Some, None, IsSome, is_some, MatchOption, MatchBool, Bool, refl, sym, ap, ◌∙◌}
+use Rattle.std.proofs.Common.{Option, Some, None, is_some, MatchOption, MatchBool, Bool, refl, sym, ap, ◌∙◌}
 use Rattle.std.proofs.Common.{subst}
 use Rattle.std.proofs.Common.{arith}
 use Rattle.std.specs.List.{AllByRecursion}
@@ -23,9 +23,9 @@ use Rattle.x86_meaning.specs.StartLaws.{HasWord}
 use Rattle.x86_meaning.specs.Stated.{AreParams, IsStated, filling, stated_cell}
 use Rattle.x86_meaning.specs.StatedCells.{stated_cells, stated_regs}
 use Rattle.x86_meaning.specs.Correct.{IsCorrect, Keeps, Returns, preserved}
-use Rattle.x86_meaning.specs.Refused.{IsToBeLeft, copied_word, copy_by, load, store, ret, copy_after_write}
+use Rattle.x86_meaning.specs.Refused.{IsToBeLeft, copied_word, copy_by, load, store, ret}
 use Rattle.x86_meaning.specs.Refused.{copy_with_input_put_back, copy_with_stack_moved, copy_of_complement}
-use Rattle.x86_meaning.proofs.Memory.{get_put_same, get_put_other}
+use Rattle.x86_meaning.proofs.Memory.{get_put_same}
 use Rattle.x86_meaning.proofs.Refusing.{left_outside}
 use Rattle.x86_meaning.proofs.StatedIsStart.{stated_is_start}
 use Rattle.x86_meaning.proofs.StatedRows.{is_stated}

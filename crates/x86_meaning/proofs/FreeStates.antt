@@ -1,8 +1,7 @@
 -- That start states are free: from one start others follow, by other words in what the calling convention leaves free.
-use Rattle.std.proofs.Common.{◌≡◌, ◌≢◌, ℕ, zero, suc, ◌+◌, ◌*◌, ◌%◌, ◌^◌, ◌<◌, ◌≤◌, ◌==◌, Bool, true, false, cond, not}
-use Rattle.std.proofs.Common.{List, [], ◌∷◌, length, Option, Some, None, IsSome, IfSome, is_some, slice_get}
-use Rattle.std.proofs.Common.{slice_index_or}
-use Rattle.std.proofs.Common.{slice_set, if◌then◌else◌, IsTrue, refl, sym, ap, ◌∙◌, subst, arith, length-set}
+use Rattle.std.proofs.Common.{◌≡◌, ◌≢◌, ℕ, zero, suc, ◌+◌, ◌*◌, ◌%◌, ◌^◌, ◌<◌, ◌≤◌, ◌==◌, Bool, true, false, cond}
+use Rattle.std.proofs.Common.{List, length, Option, Some, None, IsSome, IfSome, is_some, slice_get}
+use Rattle.std.proofs.Common.{if◌then◌else◌, IsTrue, refl, sym, ap, ◌∙◌, subst, arith}
 use Rattle.std.specs.Option.{option_map_or, IsSomeAnd}
 use Rattle.std.specs.FinMap as map
 use Rattle.std.proofs.lemmas.Bool.Decides.{nat_tests}
@@ -11,12 +10,12 @@ use Rattle.word_program.specs.declared.parameter.Role.{Role}
 use Rattle.word_program.specs.Program.{Source}
 use Rattle.word_program.specs.Values.{is_input_array}
 use Rattle.x86_instr.specs.declared.operand.Reg.{Reg}
-use Rattle.x86_instr.specs.declared.operand.Reg.TheVariants.{Rcx, Rdx, Rsp, Rsi, Rdi, R8, R9}
+use Rattle.x86_instr.specs.declared.operand.Reg.TheVariants.{Rsp}
 use Rattle.x86_instr.specs.declared.line.Line.{Line}
 use Rattle.x86_instr.specs.Frame.{frame_of}
 use Rattle.x86_instr.specs.Registers.{number_of}
 use Rattle.x86_meaning.specs.declared.state.State.{State}
-use Rattle.x86_meaning.specs.Machine.{Cells, IsState, IsWord, reg, with_reg}
+use Rattle.x86_meaning.specs.Machine.{IsState, IsWord, reg, with_reg}
 use Rattle.x86_meaning.specs.Start.{Area, Array, Frame, Return, param_reg, words_if, array_words, area_words}
 use Rattle.x86_meaning.specs.Start.{input_array_words, address_of, IsStart}
 use Rattle.x86_meaning.specs.StartLaws.{HasWord, IsFreeRegister, IsNoInput}

@@ -1,6 +1,6 @@
 -- That a run keeps the memory: words of areas that are apart have different addresses, and a store to an
 -- output array or to the frame leaves all the other cells.
-use Rattle.std.proofs.Common.{◌≡◌, ◌≢◌, ℕ, ◌/◌, ◌<◌, ◌≤◌, Bool, true, false, not, List, length, Option, Some, None}
+use Rattle.std.proofs.Common.{◌≡◌, ◌≢◌, ℕ, ◌<◌, ◌≤◌, Bool, true, false, not, List, length, Option, Some, None}
 use Rattle.std.proofs.Common.{IsSome}
 use Rattle.std.proofs.Common.{IsTrue, slice_get, if◌then◌else◌, refl, sym, ◌∙◌, subst, arith, lt_of_lt_of_le}
 use Rattle.std.specs.Option.{option_map_or}

@@ -1,6 +1,6 @@
 -- What correctness says of a run from a start, as what it refuses.
-use Rattle.std.proofs.Common.{◌≡◌, ◌≢◌, ℕ, zero, suc, ◌+◌, ◌-◌, ◌*◌, ◌/◌, ◌<◌, ◌≤◌, true, List, [], ◌∷◌, ◌++◌, Some}
-use Rattle.std.proofs.Common.{is_some, slice_get, refl, sym, ap, ◌∙◌, subst, arith}
+use Rattle.std.proofs.Common.{◌≡◌, ◌≢◌, ℕ, zero, suc, ◌+◌, ◌*◌, ◌≤◌, List, [], ◌∷◌, ◌++◌, Some}
+use Rattle.std.proofs.Common.{is_some, slice_get, sym, ◌∙◌, subst, arith}
 use Rattle.std.specs.List.{AllByRecursion}
 use Rattle.std.specs.FinMap as map
 use Rattle.word_program.specs.Program.{Source}
@@ -11,11 +11,10 @@ use Rattle.x86_instr.specs.Frame.{frame_of}
 use Rattle.x86_meaning.specs.declared.state.State.{State}
 use Rattle.x86_meaning.specs.Machine.{reg}
 use Rattle.x86_meaning.specs.Runs.{Ended, Stuck, EndsKeeping, run_from, states_of}
-use Rattle.x86_meaning.specs.Start.{Area, Array, Frame, Return, param_reg, IsStart}
+use Rattle.x86_meaning.specs.Start.{Array, Frame, Return, param_reg, IsStart}
 use Rattle.x86_meaning.specs.StartLaws.{HasWord}
-use Rattle.x86_meaning.specs.Correct.{IsCorrect, IsOutside, Keeps, Returns, written_words}
+use Rattle.x86_meaning.specs.Correct.{IsCorrect, IsOutside, Keeps, Returns}
 use Rattle.x86_meaning.specs.Refused.{IsToBeLeft}
-use Rattle.x86_meaning.proofs.FrameLimits.{frame_is}
 use Rattle.x86_meaning.proofs.FreeStates.{has_word, word_below}
 use Rattle.x86_meaning.proofs.RunStates.{none_at, stuck_not_ended, ended_state, runs_keep}
 

@@ -1,14 +1,14 @@
 -- The states of a run: where they begin and end, that each follows from the one before it by a step, and that
 -- `Runs` speaks of them.
-use Rattle.std.proofs.Common.{◌≡◌, ℕ, zero, suc, ◌+◌, Bool, true, false, List, [], ◌∷◌, ◌++◌, length, Option, Some}
-use Rattle.std.proofs.Common.{None, MatchOption, MatchBool, slice_get, if◌then◌else◌, refl, sym, ap, ◌∙◌, subst, arith}
+use Rattle.std.proofs.Common.{◌≡◌, ℕ, zero, suc, ◌+◌, Bool, true, false, List, [], ◌∷◌, ◌++◌, Option, Some}
+use Rattle.std.proofs.Common.{None, MatchOption, MatchBool, slice_get, if◌then◌else◌, refl, sym, ap, ◌∙◌, subst}
 use Rattle.std.specs.List.{AllByRecursion}
 use Rattle.std.specs.Option.{option_map_or}
 use Rattle.x86_instr.specs.declared.line.Line.{Line}
 use Rattle.x86_instr.specs.Listings.{is_ret}
 use Rattle.x86_meaning.specs.declared.state.State.{State}
 use Rattle.x86_meaning.specs.Machine.{step_of}
-use Rattle.x86_meaning.specs.Runs.{Runs, Outcome, Ended, Stuck, EndsKeeping, run_from, state_left, states_of}
+use Rattle.x86_meaning.specs.Runs.{Runs, Ended, Stuck, EndsKeeping, run_from, state_left, states_of}
 use Rattle.x86_meaning.specs.Laws.{FollowsStep, LastState}
 
 -- ---- outcomes

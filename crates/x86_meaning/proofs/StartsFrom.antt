@@ -1,9 +1,8 @@
 -- A start from words for the registers and a content of the memory: the memory is put together of the words of the
 -- arrays and of the stack.
 use Rattle.std.proofs.Common.{◌≡◌, ◌≢◌, ℕ, zero, suc, ◌+◌, ◌-◌, ◌*◌, ◌/◌, ◌%◌, ◌^◌, ◌<◌, ◌≤◌, ◌==◌, Bool, true, false}
-use Rattle.std.proofs.Common.{cond, not, List, [], ◌∷◌, length, Option, Some, None, IsSome, IfSome, is_some, slice_get}
-use Rattle.std.proofs.Common.{slice_index, IsTrue, refl, sym, ap, ◌∙◌, subst, arith, ◌⊎◌, inl, inr}
-use Rattle.std.specs.Prelude.{◌↔◌}
+use Rattle.std.proofs.Common.{cond, List, length, Option, Some, None, IsSome, IfSome, is_some, slice_get}
+use Rattle.std.proofs.Common.{IsTrue, refl, sym, ap, ◌∙◌, subst, arith, ◌⊎◌, inl, inr}
 use Rattle.std.specs.Option.{option_map_or, IsSomeAnd}
 use Rattle.std.specs.FinMap as map
 use Rattle.std.specs.Ordering.{nat_cmp}
@@ -14,17 +13,17 @@ use Rattle.word_program.specs.declared.parameter.Param.{Param}
 use Rattle.word_program.specs.declared.parameter.Role.{Role}
 use Rattle.word_program.specs.declared.parameter.Role.TheVariants.{Output, InputArray, InputScalar}
 use Rattle.word_program.specs.Program.{Source}
-use Rattle.word_program.specs.Values.{is_output, is_input_array, is_scalar, input_word}
+use Rattle.word_program.specs.Values.{is_output, is_input_array, is_scalar}
 use Rattle.x86_instr.specs.declared.operand.Reg.{Reg}
 use Rattle.x86_instr.specs.declared.operand.Reg.TheVariants.{Rsp}
 use Rattle.x86_instr.specs.declared.line.Line.{Line}
 use Rattle.x86_instr.specs.Frame.{frame_of}
 use Rattle.x86_meaning.specs.declared.state.State.{State}
-use Rattle.x86_meaning.specs.Machine.{Cells, IsState, IsWord, reg}
-use Rattle.x86_meaning.specs.Start.{Area, Array, Frame, Return, param_reg, words_if, array_words, input_array_words}
-use Rattle.x86_meaning.specs.Start.{area_words, address_of, is_output_array, are_arrays_apart, is_apart, AreApart}
+use Rattle.x86_meaning.specs.Machine.{Cells, IsState, IsWord}
+use Rattle.x86_meaning.specs.Start.{Area, Array, Frame, Return, param_reg, array_words}
+use Rattle.x86_meaning.specs.Start.{area_words, address_of, is_output_array, are_arrays_apart, is_apart}
 use Rattle.x86_meaning.specs.Start.{IsStart}
-use Rattle.x86_meaning.specs.StartLaws.{HasWord, is_array, IsOnStack, IsNeeded, MeetConvention, StartsWith, array_word}
+use Rattle.x86_meaning.specs.StartLaws.{HasWord, is_array, IsNeeded, MeetConvention, StartsWith, array_word}
 use Rattle.x86_meaning.specs.StatedCells.{sixteen, cells_from}
 use Rattle.x86_meaning.proofs.FrameLimits.{frame_is}
 use Rattle.x86_meaning.proofs.FreeStates.{has_word, word_below}

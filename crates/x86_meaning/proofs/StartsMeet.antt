@@ -1,5 +1,5 @@
 -- That every start meets the calling convention.
-use Rattle.std.proofs.Common.{◌≡◌, ◌≢◌, ℕ, ◌+◌, ◌-◌, ◌*◌, ◌/◌, ◌%◌, ◌^◌, ◌<◌, ◌≤◌, Bool, true, false, List, Option}
+use Rattle.std.proofs.Common.{◌≡◌, ◌≢◌, ℕ, ◌+◌, ◌-◌, ◌/◌, ◌%◌, ◌<◌, ◌≤◌, Bool, true, false, List, Option}
 use Rattle.std.proofs.Common.{Some}
 use Rattle.std.proofs.Common.{None, IsSome, IfSome, IsTrue, slice_get, refl, sym, ap, subst, arith, ◌⊎◌, inl, inr}
 use Rattle.std.specs.Option.{option_map_or}
@@ -13,7 +13,7 @@ use Rattle.x86_instr.specs.declared.line.Line.{Line}
 use Rattle.x86_instr.specs.Frame.{frame_of}
 use Rattle.x86_meaning.specs.declared.state.State.{State}
 use Rattle.x86_meaning.specs.Machine.{IsWord, reg}
-use Rattle.x86_meaning.specs.Start.{Area, Array, Frame, Return, param_reg, words_if, array_words, address_of}
+use Rattle.x86_meaning.specs.Start.{Array, Frame, Return, param_reg, array_words, address_of}
 use Rattle.x86_meaning.specs.Start.{is_output_array, are_arrays_apart, IsStart}
 use Rattle.x86_meaning.specs.StartLaws.{HasWord, is_array, IsOnStack, IsNeeded, MeetConvention, array_word, word_at}
 use Rattle.x86_meaning.proofs.FrameLimits.{frame_is}

@@ -1,13 +1,9 @@
 -- How to go through a run line by line: what a run needs of its next line.
-use Rattle.std.proofs.Common.{◌≡◌, ℕ, ◌+◌, Bool, true, false, List, [], ◌∷◌, Option, Some, None, IsSome, MatchOption}
-use Rattle.std.proofs.Common.{MatchBool, option_map, option_and_then, if◌then◌else◌, refl, sym, ap, ◌∙◌, subst}
-use Rattle.std.specs.Option.{option_map_or}
+use Rattle.std.proofs.Common.{◌≡◌, ℕ, Option, Some, None, IsSome, MatchOption}
+use Rattle.std.proofs.Common.{option_map, if◌then◌else◌, sym, ap, ◌∙◌, subst}
 use Rattle.std.specs.FinMap as map
-use Rattle.x86_instr.specs.declared.line.Line.{Line}
 use Rattle.x86_meaning.specs.declared.state.State.{State}
-use Rattle.x86_meaning.specs.Machine.{loaded, stored, step_of}
-use Rattle.x86_instr.specs.Listings.{is_ret}
-use Rattle.x86_meaning.specs.Runs.{Runs, Ended, Stuck, run_from}
+use Rattle.x86_meaning.specs.Machine.{loaded, stored}
 
 -- where the address is in the memory, a store leads to the state with the word there
 pub stored_there : (s : State) (address word : ℕ) → IsSome (map.get s.cells address)

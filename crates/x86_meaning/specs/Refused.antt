@@ -1,6 +1,6 @@
 -- What laws say of listings that are not correct: the cells that a function must leave, and listings for a program
 -- that copies one word.
-use Rattle.std.specs.Prelude.{◌≡◌, ◌≢◌, ℕ, ◌+◌, ◌-◌, ◌*◌, ◌<◌, ◌≤◌, Bool, List, [], ◌∷◌, None, pos, codes}
+use Rattle.std.specs.Prelude.{◌≢◌, ℕ, ◌+◌, ◌-◌, ◌*◌, ◌<◌, ◌≤◌, Bool, List, [], ◌∷◌, None, pos, codes}
 use Rattle.word_program.specs.declared.parameter.Role.TheVariants.{Output, InputArray}
 use Rattle.word_operations.specs.declared.kind.Kind.TheVariants as kinds
 use Rattle.word_program.specs.declared.operation.Operand.TheVariants as operands

@@ -1,5 +1,4 @@
 -- That cells of no input array may hold any word, and that there may be further cells.
-use Rattle.std.specs.FinMap as map
 use Rattle.x86_meaning.proofs.FreeStates.{cell_is_free, absent_outside}
 use Rattle.x86_meaning.proofs.start_laws.other_cells_are_free.Goals as goal
 
