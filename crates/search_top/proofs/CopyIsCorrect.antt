@@ -94,7 +94,7 @@ module _ (name output input : List ℕ) (words index : ℕ) (within : index < wo
                         (get_put_same c1 (address_of first 24 Frame 1) r6) (
                           k2,
                           on_load (later cf of zf r0 r6 rsp r11 c2) _ (address_of first 24 (Array 1) index) w _ _ (omega arith)
-                              (input_kept program lines inputs first start c2 1 index k2 there) (
+                              (input_kept program lines inputs first start refl c2 1 index k2 there) (
                                 k2,
                                 (
                                   k2,

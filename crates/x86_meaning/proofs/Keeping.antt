@@ -1,6 +1,7 @@
 -- That a run keeps the memory: words of areas that are apart have different addresses, and a store to an
 -- output array or to the frame leaves all the other cells.
-use Rattle.std.proofs.Common.{◌≡◌, ◌≢◌, ℕ, ◌/◌, ◌<◌, ◌≤◌, true, false, not, List, length, Option, Some, None, IsSome}
+use Rattle.std.proofs.Common.{◌≡◌, ◌≢◌, ℕ, ◌<◌, ◌≤◌, Bool, true, false, not, List, length, Option, Some, None}
+use Rattle.std.proofs.Common.{IsSome}
 use Rattle.std.proofs.Common.{IsTrue, slice_get, if◌then◌else◌, refl, sym, ◌∙◌, subst, arith, lt_of_lt_of_le}
 use Rattle.std.specs.Option.{option_map_or}
 use Rattle.std.specs.FinMap as map
@@ -14,17 +15,11 @@ use Rattle.x86_meaning.specs.declared.state.State.{State}
 use Rattle.x86_meaning.specs.Machine.{Cells}
 use Rattle.x86_instr.specs.Frame.{frame_of}
 use Rattle.x86_meaning.specs.Start.{Area, Array, Frame, Return, array_words, output_words, input_array_words}
-use Rattle.x86_meaning.specs.Start.{area_words, address_of, is_apart, IsStart}
-use Rattle.x86_meaning.specs.Correct.{IsOutside, Keeps}
+use Rattle.x86_meaning.specs.Start.{area_words, address_of, is_output_array, are_arrays_apart, is_apart, IsStart}
+use Rattle.x86_meaning.specs.Correct.{IsOutside, Keeps, written_words}
 use Rattle.x86_meaning.proofs.Memory.{get_put_other, has_put}
 
 -- ---- how many words
-
--- how many words of an area a listing may store to
-abbrev pub written_words : List Param → ℕ → Area → ℕ
-written_words params frame (Array param) = output_words params param
-written_words params frame Frame = frame / 8
-written_words params frame Return = 0
 
 -- an output is an array
 output_role : (role : Role) (n : ℕ) → (if is_output role then n else 0) ≤ (if not (is_scalar role) then n else 0)
@@ -72,18 +67,30 @@ output_role_is InputArray n word h = absurd (omega arith)
 output_role_is InputScalar n word h = absurd (omega arith)
 
 -- the same of a parameter that may be missing
-output_is_at : (o : Option Param) (word : ℕ)
+pub output_is_at : (o : Option Param) (word : ℕ)
     → word < option_map_or (λ p. if is_output p.role then length p.bounds else 0) o 0
     → option_map_or (λ p. is_output p.role) o false ≡ true
 output_is_at None word h = absurd (omega arith)
 output_is_at (Some p) word h = output_role_is p.role (length p.bounds) word h
 
--- an area with a word that may be stored to shares no cell with any other
-pub written_apart : (params : List Param) (frame : ℕ) (area : Area) (word : ℕ) → word < written_words params frame area
-    → IsTrue (is_apart params area)
-written_apart params frame (Array param) word h = output_is_at (slice_get params param) word h
-written_apart params frame Frame word h = refl
-written_apart params frame Return word h = refl
+-- an output is apart from every array where outputs may not overlap inputs
+output_apart : (overlap first second : Bool) → overlap ≡ false → first ≡ true
+    → IsTrue (are_arrays_apart overlap first second)
+output_apart true first second none is = cc
+output_apart false true true none is = refl
+output_apart false true false none is = refl
+output_apart false false second none is = cc
+
+-- so an area with a word that may be stored to is apart from every other
+pub written_apart : (overlap : Bool) (params : List Param) (frame : ℕ) (a b : Area) (word : ℕ) → overlap ≡ false
+    → word < written_words params frame a → IsTrue (is_apart overlap params a b)
+written_apart overlap params frame (Array p) (Array q) word none h =
+    output_apart overlap (is_output_array params p) (is_output_array params q) none
+    (output_is_at (slice_get params p) word h)
+written_apart overlap params frame (Array p) Frame word none h = refl
+written_apart overlap params frame (Array p) Return word none h = refl
+written_apart overlap params frame Frame b word none h = refl
+written_apart overlap params frame Return b word none h = refl
 
 -- a parameter has no words as an output and as an input array
 one_role : (role : Role) (n i j : ℕ) → i < (if is_output role then n else 0)
@@ -100,11 +107,11 @@ one_role_at None i j h k = omega arith
 one_role_at (Some p) i j h k = one_role p.role (length p.bounds) i j h k
 
 -- an array is known by its parameter
-array_number : {p q : ℕ} → Array p ≡ Array q → p ≡ q
+pub array_number : {p q : ℕ} → Array p ≡ Array q → p ≡ q
 array_number {p} {q} e = cc
 
 -- the frame is no array
-frame-ne-array : {p : ℕ} → Frame ≢ Array p
+pub frame-ne-array : {p : ℕ} → Frame ≢ Array p
 frame-ne-array {p} e = cc
 
 -- no array is both an output and an input
@@ -122,14 +129,6 @@ address_injective s frame (Array param) i j e = omega arith
 address_injective s frame Frame i j e = omega arith
 address_injective s frame Return i j e = omega arith
 
--- an address outside is none that may be stored to
-pub outside_written : (params : List Param) (frame : ℕ) (s : State) (area : Area) (word address : ℕ)
-    → word < written_words params frame area
-    → IsOutside params frame s address → address ≢ address_of s frame area word
-outside_written params frame s (Array param) word address h outside = outside.outputs param word h
-outside_written params frame s Frame word address h outside = outside.under_stack word h
-outside_written params frame s Return word address h outside = absurd (omega arith)
-
 -- another word of the area of a store holds what it held
 pub put_same_area : (s : State) (frame : ℕ) (cells : Cells) (area : Area) (i j value : ℕ) → j ≢ i
     → map.get (map.insert cells (address_of s frame area i) value) (address_of s frame area j) ≡ map.get cells
@@ -146,24 +145,6 @@ keeps_start params frame s = record { addresses = λ address. refl; others = λ 
 
 module _ (program : Source) (lines : List Line) (inputs : List ℕ) (s : State)
     (start : IsStart program lines inputs s) where
-  -- words of two areas have different addresses, where one of them may be stored to
-  pub addresses_apart : (a b : Area) (i j : ℕ) → a ≢ b → i < written_words program.params (frame_of lines) a
-      → j < area_words program.params (frame_of lines) b
-      → address_of s (frame_of lines) a i ≢ address_of s (frame_of lines) b j
-  addresses_apart a b i j other h k =
-      start.apart a b other (written_apart program.params (frame_of lines) a i h) i j
-      (lt_of_lt_of_le h (written-le-area program.params (frame_of lines) a)) k
-
-  -- a word of another area than that of a store holds what it held
-  pub put_other_area : (cells : Cells) (a b : Area) (i j value : ℕ) → a ≢ b
-      → i < written_words program.params (frame_of lines) a
-      → j < area_words program.params (frame_of lines) b
-      → map.get (map.insert cells (address_of s (frame_of lines) a i) value) (address_of s (frame_of lines) b j)
-      ≡ map.get cells (address_of s (frame_of lines) b j)
-  put_other_area cells a b i j value other h k =
-      get_put_other cells (address_of s (frame_of lines) a i) value (address_of s (frame_of lines) b j)
-      (λ e. addresses_apart a b i j other h k (sym e))
-
   -- a memory that keeps has every word of every area
   pub kept_there : (cells : Cells) (area : Area) (word : ℕ) → Keeps program.params (frame_of lines) s cells
       → word < area_words program.params (frame_of lines) area
@@ -186,18 +167,34 @@ module _ (program : Source) (lines : List Line) (inputs : List ℕ) (s : State)
         (written_there cells area word kept h) ∙ kept.addresses q;
     others = λ q outside.
         get_put_other cells (address_of s (frame_of lines) area word) value q
-        (outside_written program.params (frame_of lines) s area word q h outside)
+        (outside area word h)
         ∙ kept.others q outside;
   }
+
+-- where outputs may not overlap inputs
+module _ (program : Source) (lines : List Line) (inputs : List ℕ) (s : State)
+    (start : IsStart program lines inputs s) (none : program.overlap ≡ false) where
+  -- words of two areas have different addresses, where one of them may be stored to
+  pub addresses_apart : (a b : Area) (i j : ℕ) → a ≢ b → i < written_words program.params (frame_of lines) a
+      → j < area_words program.params (frame_of lines) b
+      → address_of s (frame_of lines) a i ≢ address_of s (frame_of lines) b j
+  addresses_apart a b i j other h k =
+      start.apart a b other (written_apart program.overlap program.params (frame_of lines) a b i none h) i j
+      (lt_of_lt_of_le h (written-le-area program.params (frame_of lines) a)) k
+
+  -- no area with a word that may be stored to is an input array
+  written-ne-input : (area : Area) (param i j : ℕ) → i < written_words program.params (frame_of lines) area
+      → j < input_array_words program.params param → area ≢ Array param
+  written-ne-input (Array p) param i j h k = output-ne-input program.params p param i j h k
+  written-ne-input Frame param i j h k = frame-ne-array
+  written-ne-input Return param i j h k = absurd (omega (arith, h))
 
   -- the words of input arrays lie outside
   pub input_outside : (param word : ℕ) → word < input_array_words program.params param
       → IsOutside program.params (frame_of lines) s (address_of s (frame_of lines) (Array param) word)
-  input_outside param word h = let k = lt_of_lt_of_le h (input-le-array program.params param) in record {
-    outputs = λ p i there e. addresses_apart (Array p) (Array param) i word
-        (output-ne-input program.params p param i word there h) there k (sym e);
-    under_stack = λ i there e. addresses_apart Frame (Array param) i word frame-ne-array there k (sym e);
-  }
+  input_outside param word h area i there e =
+      addresses_apart area (Array param) i word (written-ne-input area param i word there h) there
+      (lt_of_lt_of_le h (input-le-array program.params param)) (sym e)
 
   -- and hold the inputs in every memory that keeps
   pub input_kept : (cells : Cells) (param word : ℕ) → Keeps program.params (frame_of lines) s cells

@@ -7,6 +7,14 @@ pub mod Entries
 pub mod Funnel
 pub mod FrameLimits
 pub mod StatedIsStart
+pub mod FreeStates
+pub mod StartsFrom
+pub mod StartsMeet
 pub mod StuckLines
 pub mod Addresses
 pub mod StatedRows
+pub mod RunStates
+pub mod Refusing
+pub mod CopiedWord
+pub mod CorrectCopies
+pub mod CopiedInPlace

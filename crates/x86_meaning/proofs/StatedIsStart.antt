@@ -23,6 +23,7 @@ use Rattle.x86_meaning.specs.Stated.{filling, stack_address, array_address, role
 use Rattle.x86_meaning.specs.Stated.{stated_reg, role_cell, array_cell, array_at, is_stack, stated_cell, IsStated}
 use Rattle.x86_meaning.specs.Stated.{AreParams, AreWords}
 use Rattle.x86_meaning.proofs.FrameLimits.{frame_is}
+use Rattle.x86_meaning.proofs.Keeping.{input-le-array}
 
 -- ---- choices
 
@@ -43,7 +44,7 @@ array_below (p ∷ ps) zero word h = omega arith
 array_below (p ∷ ps) (suc i) word h = let r : i < length ps = array_below ps i word h in omega (arith, r)
 
 -- so is one with a scalar
-scalar_below : (params : List Param) (i : ℕ) → 0 < words_if is_scalar params i → i < length params
+pub scalar_below : (params : List Param) (i : ℕ) → 0 < words_if is_scalar params i → i < length params
 scalar_below [] i h = absurd (omega arith)
 scalar_below (p ∷ ps) zero h = omega arith
 scalar_below (p ∷ ps) (suc i) h = let r : i < length ps = scalar_below ps i h in omega (arith, r)
@@ -84,17 +85,6 @@ input_at : (o : Option Param) (w word : ℕ)
     → option_map_or (λ p. role_cell p.role w) o filling ≡ w
 input_at None w word h = absurd (omega arith)
 input_at (Some p) w word h = role_input p.role (length p.bounds) w word h
-
--- an input array's words are words of its array
-input_role : (role : Role) (n : ℕ) → (if is_input_array role then n else 0) ≤ (if not (is_scalar role) then n else 0)
-input_role Output n = omega arith
-input_role InputArray n = omega arith
-input_role InputScalar n = omega arith
-
-input_le : (o : Option Param) → option_map_or (λ p. if is_input_array p.role then length p.bounds else 0) o 0
-    ≤ option_map_or (λ p. if not (is_scalar p.role) then length p.bounds else 0) o 0
-input_le None = omega arith
-input_le (Some p) = input_role p.role (length p.bounds)
 
 -- ---- words
 
@@ -359,7 +349,7 @@ module _ (program : Source) (lines : List Line) (inputs : List ℕ) (s : State) 
       → map.get s.cells (address_of s (frame_of lines) (Array i) word) ≡ Some (input_word program.params inputs i word)
   input_held i word h =
       let le : input_array_words program.params i ≤ array_words program.params i =
-      input_le (slice_get program.params i) in
+      input-le-array program.params i in
       array_held i word (omega (arith, le, h)) ∙ ap Some (input_at (slice_get program.params i) _ word h)
 
   -- the stated state is a start

@@ -22,7 +22,7 @@ use Rattle.x86_meaning.specs.Machine.{Cells}
 use Rattle.x86_meaning.specs.Start.{array_words}
 use Rattle.x86_meaning.specs.Stated.{filling, stack_address, array_address, array_cell, is_stack, stated_cell}
 use Rattle.x86_meaning.specs.Stated.{stated_reg, AreParams, AreWords, IsStated}
-use Rattle.x86_meaning.specs.StatedCells.{cells_from, with_array, with_arrays, stated_cells, stated_regs}
+use Rattle.x86_meaning.specs.StatedCells.{sixteen, cells_from, with_array, with_arrays, stated_cells, stated_regs}
 use Rattle.x86_meaning.proofs.Memory.{get_put_same, get_put_other}
 use Rattle.x86_meaning.proofs.FrameLimits.{frame_is}
 use Rattle.x86_meaning.proofs.StatedIsStart.{array_below}
@@ -68,8 +68,9 @@ params_limits params six all = record { six = six; short = words_limit params al
 
 -- ---- what stands at an address
 
-below : (i n : ℕ) → i < suc n → i ≢ n → i < n
-below i n h ne = by_order (nat_lt i n) refl
+-- a number below the next one, but not this one, is below this one
+pub below_last : (i n : ℕ) → i < suc n → i ≢ n → i < n
+below_last i n h ne = by_order (nat_lt i n) refl
   where
     by_order : (b : Bool) → nat_lt i n ≡ b → i < n
     by_order true is = grind (arith, nat_tests, is)
@@ -87,7 +88,7 @@ at_last address n i word cells true is h rest =
 at_last address n i word cells false is h rest =
     let ne : i ≢ n = λ e. absurd (grind (arith, nat_tests, is, e)) in
     get_put_other (cells_from address n word cells) (address + 8 * n) (word n) (address + 8 * i)
-    (λ e. ne (omega (arith, e))) ∙ rest (below i n h ne)
+    (λ e. ne (omega (arith, e))) ∙ rest (below_last i n h ne)
 
 row_in : (address n : ℕ) (word : ℕ → ℕ) (cells : Cells) (i : ℕ) → i < n
     → map.get (cells_from address n word cells) (address + 8 * i) ≡ Some (word i)
@@ -131,7 +132,7 @@ module _ (params : List Param) (inputs : List ℕ) (short : (param : ℕ) → ar
       let ne : i ≢ n = λ e. absurd (grind (arith, nat_tests, is, e)) in
       let si : array_words params i ≤ 32 = short i in
       let sn : array_words params n ≤ 32 = short n in
-      let lt : i < n = below i n h ne in
+      let lt : i < n = below_last i n h ne in
       row_out (array_address n) (array_words params n) (array_cell params inputs n) (with_arrays params inputs n cells)
       (array_address i + 8 * w) (λ v o e. absurd (omega (arith, si, sn, lt, k, o, e)))
       ∙ rest lt
@@ -208,25 +209,24 @@ module _ (params : List Param) (frame : ℕ) (inputs : List ℕ) (ok : AreParams
       off_stack q (λ i h e. absurd (odd (omega (arith, e, most, eights))))
       ∙ off_arrays q (λ i w h k e. absurd (odd (omega (arith, e)))))
 
--- a register by its number
-reg_stated : (params : List Param) (inputs : List ℕ) (r : Reg)
-    → slice_index (stated_regs params inputs) (number_of r) ≡ stated_reg params inputs r
-reg_stated params inputs Rax = refl
-reg_stated params inputs Rcx = refl
-reg_stated params inputs Rdx = refl
-reg_stated params inputs Rbx = refl
-reg_stated params inputs Rsp = refl
-reg_stated params inputs Rbp = refl
-reg_stated params inputs Rsi = refl
-reg_stated params inputs Rdi = refl
-reg_stated params inputs R8 = refl
-reg_stated params inputs R9 = refl
-reg_stated params inputs R10 = refl
-reg_stated params inputs R11 = refl
-reg_stated params inputs R12 = refl
-reg_stated params inputs R13 = refl
-reg_stated params inputs R14 = refl
-reg_stated params inputs R15 = refl
+-- the word of a register, by the register's number
+pub sixteen_word : (f : Reg → ℕ) (r : Reg) → slice_index (sixteen f) (number_of r) ≡ f r
+sixteen_word f Rax = refl
+sixteen_word f Rcx = refl
+sixteen_word f Rdx = refl
+sixteen_word f Rbx = refl
+sixteen_word f Rsp = refl
+sixteen_word f Rbp = refl
+sixteen_word f Rsi = refl
+sixteen_word f Rdi = refl
+sixteen_word f R8 = refl
+sixteen_word f R9 = refl
+sixteen_word f R10 = refl
+sixteen_word f R11 = refl
+sixteen_word f R12 = refl
+sixteen_word f R13 = refl
+sixteen_word f R14 = refl
+sixteen_word f R15 = refl
 
 -- the state with these registers and cells is the stated one
 pub is_stated : (program : Source) (lines : List Line) (inputs regs : List ℕ) (cells : Cells) (frame : ℕ)
@@ -235,7 +235,8 @@ pub is_stated : (program : Source) (lines : List Line) (inputs regs : List ℕ) 
     → IsStated program lines inputs (record { regs = regs; cf = None; of = None; zf = None; cells = cells })
 is_stated program lines inputs regs cells frame ok is_frame are_regs are_cells = record {
   sixteen = ap length are_regs;
-  registers = λ r. ap (λ words. slice_index words (number_of r)) are_regs ∙ reg_stated program.params inputs r;
+  registers = λ r. ap (λ words. slice_index words (number_of r)) are_regs
+      ∙ sixteen_word (stated_reg program.params inputs) r;
   cf = refl;
   of = refl;
   zf = refl;

@@ -1,15 +1,9 @@
 -- How to go through a run line by line: what a run needs of its next line.
-use Rattle.std.proofs.Common.{◌≡◌, ℕ, ◌+◌, Bool, true, false, List, [], ◌∷◌, Option, Some, None, IsSome, MatchOption}
-use Rattle.std.proofs.Common.{MatchBool, option_map, option_and_then, if◌then◌else◌, refl, sym, ap, ◌∙◌, subst}
-use Rattle.std.specs.Option.{option_map_or}
+use Rattle.std.proofs.Common.{◌≡◌, ℕ, Option, Some, None, IsSome, MatchOption}
+use Rattle.std.proofs.Common.{option_map, if◌then◌else◌, sym, ap, ◌∙◌, subst}
 use Rattle.std.specs.FinMap as map
-use Rattle.x86_instr.specs.declared.line.Line.{Line}
 use Rattle.x86_meaning.specs.declared.state.State.{State}
-use Rattle.x86_meaning.specs.Machine.{loaded, stored, step_of}
-use Rattle.x86_instr.specs.Listings.{is_ret}
-use Rattle.x86_meaning.specs.Runs.{Runs, Ended, Stuck, run_from}
-
--- ---- one step
+use Rattle.x86_meaning.specs.Machine.{loaded, stored}
 
 -- where the address is in the memory, a store leads to the state with the word there
 pub stored_there : (s : State) (address word : ℕ) → IsSome (map.get s.cells address)
@@ -29,11 +23,6 @@ pub on_operand : (o : Option ℕ) (word : ℕ) (f : ℕ → State) (G : State �
     → MatchOption (option_map f o) ⊥ G
 on_operand o word f G e g = subst (λ x. MatchOption (option_map f x) ⊥ G) (sym e) g
 
--- a step that reads a word and may be stuck behind it
-pub on_operand_then : (o : Option ℕ) (word : ℕ) (f : ℕ → Option State) (G : State → Type 0) → o ≡ Some word
-    → MatchOption (f word) ⊥ G → MatchOption (option_and_then f o) ⊥ G
-on_operand_then o word f G e g = subst (λ x. MatchOption (option_and_then f x) ⊥ G) (sym e) g
-
 -- a word that is loaded from an address under another name
 pub loaded_at : (s : State) (address address' word : ℕ) → address ≡ address' → map.get s.cells address' ≡ Some word
     → loaded s address ≡ Some word
@@ -46,44 +35,23 @@ pub on_load : (s : State) (address address' word : ℕ) (f : ℕ → State) (G :
 on_load s address address' word f G e held g =
     on_operand (loaded s address) word f G (loaded_at s address address' word e held) g
 
--- ---- one line
+-- ---- what a run that goes through says of its next line
 
--- a run whose first line is `ret` ends
-pub on_ret : (P Q : State → Type 0) (line : Line) (lines : List Line) (s : State) → is_ret line.instr ≡ true → Q s
-    → Runs P Q (line ∷ lines) s
-on_ret P Q line lines s e q = subst (λ b. MatchBool b (Q s)
-    (P s × MatchOption (step_of line.instr s) ⊥ (λ t. Runs P Q lines t))) (sym e) q
+-- a load from an address of the memory
+pub past_load : (s : State) (address address' word : ℕ) (f : ℕ → State) (G : State → Type 0) → address ≡ address'
+    → map.get s.cells address' ≡ Some word → MatchOption (option_map f (loaded s address)) ⊥ G → G (f word)
+past_load s address address' word f G e held h =
+    subst (λ o. MatchOption (option_map f o) ⊥ G) (loaded_at s address address' word e held) h
 
--- a run whose first line is another goes on behind its step
-pub on_line : (P Q : State → Type 0) (line : Line) (lines : List Line) (s t : State) → is_ret line.instr ≡ false → P s
-    → step_of line.instr s ≡ Some t
-    → Runs P Q lines t → Runs P Q (line ∷ lines) s
-on_line P Q line lines s t e p step rest =
-    subst (λ b. MatchBool b (Q s) (P s × MatchOption (step_of line.instr s) ⊥ (λ u. Runs P Q lines u))) (sym e)
-    (p, subst (λ o. MatchOption o ⊥ (λ u. Runs P Q lines u)) (sym step) rest)
+-- a load from another address
+pub no_load : (s : State) (address address' : ℕ) (f : ℕ → State) (G : State → Type 0) → address ≡ address'
+    → map.get s.cells address' ≡ None → MatchOption (option_map f (loaded s address)) ⊥ G → ⊥
+no_load s address address' f G e absent h =
+    subst (λ o. MatchOption (option_map f o) ⊥ G) (ap (loaded s) e ∙ absent) h
 
--- ---- the whole run
-
--- a step that is not stuck hands on how the rest ends
-step_ends : (P Q : State → Type 0) (lines : List Line) (number : ℕ) (s : State) (o : Option State)
-    → ((t : State) → Runs P Q lines t → (u : State) × (run_from (number + 1) lines t ≡ Ended u) × Q u)
-    → MatchOption o ⊥ (λ t. Runs P Q lines t)
-    → (u : State) × (option_map_or (λ t. run_from (number + 1) lines t) o (Stuck number s) ≡ Ended u) × Q u
-step_ends P Q lines number s None later h = absurd h
-step_ends P Q lines number s (Some t) later h = later t h
-
--- so does a line
-line_ends : (P Q : State → Type 0) (lines : List Line) (number : ℕ) (s : State) (o : Option State) (b : Bool)
-    → ((t : State) → Runs P Q lines t → (u : State) × (run_from (number + 1) lines t ≡ Ended u) × Q u)
-    → MatchBool b (Q s) (P s × MatchOption o ⊥ (λ t. Runs P Q lines t))
-    → (u : State) × ((if b then Ended s else option_map_or (λ t. run_from (number + 1) lines t) o (Stuck number s))
-    ≡ Ended u) × Q u
-line_ends P Q lines number s o true later q = (s, refl, q)
-line_ends P Q lines number s o false later h = step_ends P Q lines number s o later h.1
-
--- a run that goes through ends, in a state with Q
-pub runs_end : (P Q : State → Type 0) (lines : List Line) (number : ℕ) (s : State) → Runs P Q lines s
-    → (t : State) × (run_from number lines s ≡ Ended t) × Q t
-runs_end P Q [] number s h = absurd h
-runs_end P Q (line ∷ lines) number s h =
-    line_ends P Q lines number s (step_of line.instr s) (is_ret line.instr) (λ t. runs_end P Q lines (number + 1) t) h
+-- a store to an address of the memory
+pub past_store : (s : State) (address address' word : ℕ) (G : State → Type 0) → address ≡ address'
+    → IsSome (map.get s.cells address') → MatchOption (stored address word s) ⊥ G
+    → G (record s { cells = map.insert s.cells address' word })
+past_store s address address' word G e there h =
+    subst (λ o. MatchOption o ⊥ G) (ap (λ p. stored p word s) e ∙ stored_there s address' word there) h

@@ -14,12 +14,18 @@ use Rattle.x86_meaning.specs.declared.state.State.{State}
 use Rattle.x86_meaning.specs.Machine.{Cells, reg}
 use Rattle.x86_meaning.specs.Runs.{Runs}
 use Rattle.x86_instr.specs.Frame.{frame_of}
-use Rattle.x86_meaning.specs.Start.{Array, Frame, output_words, area_words, address_of, IsStart}
+use Rattle.x86_meaning.specs.Start.{Area, Array, Frame, Return, output_words, area_words, address_of, IsStart}
 
--- the address is in none of the output arrays, and not in the frame
-pub record IsOutside (params : List Param) (frame : ℕ) (s : State) (address : ℕ) : Type 0 where
-  pub outputs : (param word : ℕ) → word < output_words params param → address ≢ address_of s frame (Array param) word
-  pub under_stack : (word : ℕ) → word < area_words params frame Frame → address ≢ address_of s frame Frame word
+-- how many words of an area a function may write: all of the output arrays and of the frame
+abbrev pub written_words : List Param → ℕ → Area → ℕ
+written_words params frame (Array param) = output_words params param
+written_words params frame Frame = area_words params frame Frame
+written_words params frame Return = 0
+
+-- the address is that of no word that a function may write
+abbrev pub IsOutside : List Param → ℕ → State → ℕ → Type 0
+IsOutside params frame s address =
+    (area : Area) (word : ℕ) → word < written_words params frame area → address ≢ address_of s frame area word
 
 -- the memory has the cells of the start state, and those outside hold what they held there
 pub record Keeps (params : List Param) (frame : ℕ) (s : State) (cells : Cells) : Type 0 where

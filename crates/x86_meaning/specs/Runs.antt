@@ -1,5 +1,6 @@
 -- The run of a listing.
-use Rattle.std.specs.Prelude.{◌≡◌, ℕ, ◌+◌, List, [], ◌∷◌, is_some, MatchOption, if◌then◌else◌}
+use Rattle.std.specs.Prelude.{◌≡◌, ℕ, ◌+◌, List, [], ◌∷◌, ◌++◌, is_some, MatchOption, if◌then◌else◌}
+use Rattle.std.specs.List.{AllByRecursion}
 use Rattle.std.specs.FinMap as map
 use Rattle.std.specs.Option.{option_map_or}
 use Rattle.std.specs.Bool.{MatchBool}
@@ -31,3 +32,24 @@ run_from number [] s = Stuck number s
 run_from number (line ∷ lines) s =
     if is_ret line.instr then Ended s else option_map_or (λ t. run_from (number + 1) lines t) (step_of line.instr s)
     (Stuck number s)
+
+-- the state in which a run ends or is stuck
+abbrev pub state_left : Outcome → State
+state_left (Ended s) = s
+state_left (Stuck number s) = s
+
+-- the states of the run of the lines from the state s, in order: s, and the state after each step
+abbrev pub states_of : List Line → State → List State
+states_of [] s = s ∷ []
+states_of (line ∷ lines) s =
+    s ∷ (if is_ret line.instr then [] else option_map_or (λ t. states_of lines t) (step_of line.instr s) [])
+
+-- the run, whose first line has this number, ends; P holds in each of its states before the last one, and Q in
+-- the last one
+pub record EndsKeeping (P Q : State → Type 0) (number : ℕ) (lines : List Line) (s : State) : Type 0 where
+  pub before : List State
+  pub last : State
+  pub ends : run_from number lines s ≡ Ended last
+  pub states : states_of lines s ≡ before ++ last ∷ []
+  pub all_before : AllByRecursion P before
+  pub at_last : Q last

@@ -56,11 +56,27 @@ address_of s frame (Array param) word = reg s (param_reg param) + 8 * word
 address_of s frame Frame word = reg s Rsp - frame + 8 * word
 address_of s frame Return word = reg s Rsp + 8 * word
 
--- an area that shares no cell with any other: an output array, the frame, the return cell
-abbrev pub is_apart : List Param → Area → Bool
-is_apart params (Array param) = option_map_or (λ p. is_output p.role) (slice_get params param) false
-is_apart params Frame = true
-is_apart params Return = true
+-- the parameter is an output
+abbrev pub is_output_array : List Param → ℕ → Bool
+is_output_array params param = option_map_or (λ p. is_output p.role) (slice_get params param) false
+
+-- Whether two arrays have to be apart, by whether outputs may overlap inputs, and whether each array is an output:
+-- two outputs have to, an output and an input where outputs may not overlap inputs, and two inputs never.
+abbrev pub are_arrays_apart : Bool → Bool → Bool → Bool
+are_arrays_apart overlap true true = true
+are_arrays_apart overlap true false = not overlap
+are_arrays_apart overlap false true = not overlap
+are_arrays_apart overlap false false = false
+
+-- whether two different areas have to share no cell: the frame and the return cell are apart from each other and
+-- from every array
+abbrev pub is_apart : Bool → List Param → Area → Area → Bool
+is_apart overlap params (Array p) (Array q) =
+    are_arrays_apart overlap (is_output_array params p) (is_output_array params q)
+is_apart overlap params (Array p) Frame = true
+is_apart overlap params (Array p) Return = true
+is_apart overlap params Frame area = true
+is_apart overlap params Return area = true
 
 -- the two areas share no cell
 abbrev pub AreApart : State → List Param → ℕ → Area → Area → Type 0
@@ -93,6 +109,7 @@ pub record IsStart (program : Source) (lines : List Line) (inputs : List ℕ) (s
       (input_word program.params inputs param word)
   pub scalars : (param : ℕ) → 0 < words_if is_scalar program.params param
       → reg s (param_reg param) ≡ input_word program.params inputs param 0
-  -- the output arrays, the frame and the return cell share no cell with each other or an input array;
-  -- input arrays may overlap
-  pub apart : (a b : Area) → a ≢ b → IsTrue (is_apart program.params a) → AreApart s program.params (frame_of lines) a b
+  -- output arrays, the frame and the return cell share no cell, nor do the frame and the return cell and input
+  -- arrays; outputs and inputs may where the program says so, and input arrays may
+  pub apart : (a b : Area) → a ≢ b → IsTrue (is_apart program.overlap program.params a b)
+      → AreApart s program.params (frame_of lines) a b

@@ -13,18 +13,28 @@
 
 mod arithmetic;
 mod cells;
+mod correct_laws;
 mod execution;
 mod laws;
 mod listing_run;
+mod run_laws;
 mod shifts;
 mod start;
+mod start_laws;
 mod state;
 
 pub use cells::Cells;
-pub use execution::step;
-pub use laws::{
-    correct_listing_ends, functions_can_start, overflow_is_signed, stated_state_is_start,
-    stuck_line_is_stuck,
+pub use correct_laws::{
+    changed_cell_is_refused, copy_in_place_reads_first, copy_keeps_registers,
+    copy_leaves_the_input, copy_stores_the_output, correct_listing_ends, lost_register_is_refused,
+    stuck_run_is_refused, wrong_output_is_refused,
 };
+pub use execution::step;
+pub use laws::{overflow_is_signed, stuck_line_is_stuck};
 pub use listing_run::{Stuck, run};
+pub use run_laws::states_follow_by_steps;
+pub use start_laws::{
+    flags_are_free, functions_can_start, functions_start_anywhere, other_cells_are_free,
+    other_registers_are_free, starts_meet_the_convention, stated_state_is_start,
+};
 pub use state::State;

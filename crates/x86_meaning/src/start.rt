@@ -18,7 +18,7 @@ use x86_instr::{Listing, Reg};
 const FILLING: u64 = 0x5a5a_5a5a_5a5a_5a5a;
 
 /// The address of the return address.
-const STACK_PLACE: u64 = 0x7fff_fff8;
+const STACK_ADDRESS: u64 = 0x7fff_fff8;
 
 /// The addresses from the begin of one parameter's array to that of the next one.
 const ARRAY_STEP: u64 = 65_536;
@@ -74,7 +74,7 @@ fn stated_reg(program: &Program, inputs: &[u64], reg: Reg) -> u64
         Reg::Rcx => param_word(program, inputs, 3, unused_word(reg)),
         Reg::R8 => param_word(program, inputs, 4, unused_word(reg)),
         Reg::R9 => param_word(program, inputs, 5, unused_word(reg)),
-        Reg::Rsp => STACK_PLACE,
+        Reg::Rsp => STACK_ADDRESS,
         Reg::Rax | Reg::Rbx | Reg::Rbp | Reg::R10 | Reg::R11 => unused_word(reg),
         Reg::R12 | Reg::R13 | Reg::R14 | Reg::R15 => unused_word(reg),
     }
@@ -158,7 +158,7 @@ fn put_array(
 }
 
 /// Puts the arrays of all parameters into the memory.
-#[tactic(auto, using(crate::proofs::StatedRows::rows_none, crate::proofs::StatedRows::rows_more, crate::proofs::StatedRows::params_limits))]
+#[tactic(auto, using(crate::proofs::StatedRows::rows_none, crate::proofs::StatedRows::rows_more))]
 fn put_arrays(cells: &mut Cells, program: &Program, inputs: &[u64]) -> Result<(), AllocError>
     ensures arrays { OnOk result (cells.new ≡ rows.with_arrays program.entry.now.params inputs.entry.now
         (length program.entry.now.params) cells.old) }
@@ -177,7 +177,7 @@ fn put_stack(cells: &mut Cells, frame: u32) -> Result<(), AllocError>
     requires most { frame ≤ 32816 }
     ensures { OnOk result (cells.new ≡ rows.with_stack frame cells.old) }
 {
-    let first = STACK_PLACE - u64::from(frame);
+    let first = STACK_ADDRESS - u64::from(frame);
     for word in 0..u64::from(frame) / 8 + 1 {
         cells.set(first + 8 * word, FILLING)?;
     }
@@ -218,7 +218,8 @@ impl State {
     ) -> Result<State, EvalFault>
         ensures stated { IfOk result (λ state.
             spec.IsStated program.entry.now listing.entry.now.lines inputs.entry.now state) }
-        ensures start { IfOk result (λ state. IsStart program.entry.now listing.entry.now.lines inputs.entry.now state) }
+        ensures start { IfOk result (λ state.
+            IsStart program.entry.now listing.entry.now.lines inputs.entry.now state) }
         ensures err { IfErr result (λ fault. Refuses program.entry.now inputs.entry.now fault) }
     {
         check_inputs(alloc, program, inputs)?;

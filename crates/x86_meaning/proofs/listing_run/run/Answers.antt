@@ -1,3 +1,4 @@
+-- That a run keeps the addresses of the memory, where it ends and where it is stuck.
 use Rattle.std.proofs.Common.{◌+◌, ap, drop, ◌∙◌}
 use Rattle.std.specs.Prelude.{is_some}
 use Rattle.std.specs.FinMap as map

@@ -1,3 +1,4 @@
+-- What the loop over the lines keeps.
 use Rattle.std.proofs.Common.{◌≡◌, ◌+◌, drop}
 use Rattle.x86_meaning.specs.Runs.{run_from}
 use Rattle.x86_meaning.proofs.listing_run.run.Given as goal

@@ -1,9 +1,10 @@
+-- That the stated start state of every listing exists, and is a start.
 use Rattle.std.proofs.Common.{None, refl}
 use Rattle.x86_instr.specs.Frame.{frame_of}
 use Rattle.x86_meaning.specs.StatedCells.{stated_cells, stated_regs}
 use Rattle.x86_meaning.proofs.StatedIsStart.{stated_is_start}
 use Rattle.x86_meaning.proofs.StatedRows.{is_stated, params_limits}
-use Rattle.x86_meaning.proofs.laws.functions_can_start.Goals as goal
+use Rattle.x86_meaning.proofs.start_laws.functions_can_start.Goals as goal
 
 pub returns : goal.returns
 returns c = λ program lines inputs accepted words within.
