@@ -2,11 +2,8 @@
 use Rattle.std.proofs.Common.{◌≡◌, ℕ, ◌%◌, ◌≤◌, Bool, true, false, List, [], ◌∷◌, if◌then◌else◌, ℤ, pos, negsuc}
 use Rattle.std.proofs.Common.{refl, arith}
 use Rattle.std.proofs.lemmas.Bool.Decides.{nat_tests}
-use Rattle.x86_instr.specs.declared.operand.Reg.{Reg}
 use Rattle.x86_instr.specs.declared.operand.Reg.TheVariants.{Rsp}
-use Rattle.x86_instr.specs.declared.operand.Src.{Src}
 use Rattle.x86_instr.specs.declared.operand.Src.TheVariants as srcs
-use Rattle.x86_instr.specs.declared.instr.Bin.{Bin}
 use Rattle.x86_instr.specs.declared.instr.Bin.TheVariants.{Sub}
 use Rattle.x86_instr.specs.declared.instr.Instr.{Instr}
 use Rattle.x86_instr.specs.declared.instr.Instr.TheVariants as instrs

@@ -10,3 +10,7 @@ pub mod StatedIsStart
 pub mod StuckLines
 pub mod Addresses
 pub mod StatedRows
+pub mod StepStuck
+pub mod StepReads
+pub mod StepWrites
+pub mod StepKeeps

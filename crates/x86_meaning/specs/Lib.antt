@@ -7,3 +7,5 @@ pub mod Stated
 pub mod StatedCells
 pub mod Correct
 pub mod Laws
+pub mod Touches
+pub mod StepLaws

@@ -19,6 +19,7 @@ mod listing_run;
 mod shifts;
 mod start;
 mod state;
+mod step_laws;
 
 pub use cells::Cells;
 pub use execution::step;
@@ -28,3 +29,7 @@ pub use laws::{
 };
 pub use listing_run::{Stuck, run};
 pub use state::State;
+pub use step_laws::{
+    step_depends_on_its_reads, step_leaves_the_rest, step_needs_its_cell_and_flags,
+    steps_keep_states,
+};
