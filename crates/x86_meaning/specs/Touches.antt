@@ -43,7 +43,7 @@ written_address NoCell = None
 written_address (ReadCell address) = None
 written_address (WrittenCell address) = Some address
 
--- ---- the registers, the last one that is written first
+-- ---- the registers that are written, the last one first
 
 abbrev pub bin_registers : Bin → Reg → List Reg
 bin_registers Cmp dst = []
