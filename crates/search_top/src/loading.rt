@@ -1,5 +1,5 @@
 ghost use Rattle.std.specs.Prelude.{◌≡◌, ◌≤◌, ℕ, List, IfOk, IfErr};
-ghost use Rattle.io_ports.specs.Shelf.{raised};
+ghost use Rattle.io_ports.specs.Shelf.{saturating_add};
 ghost use Rattle.search_top.specs.Loading.{IsListing, IsLoaded, RefusesListing, RefusesProgram};
 
 use crate::status::Status;
@@ -30,7 +30,7 @@ pub fn load_program<S: Shelf>(
         (S.faults shelf.new)) }
     ensures files { (n : List ℕ) → S.held shelf.new n ≡ S.held shelf.old n }
     ensures output { S.said shelf.new ≡ S.said shelf.old }
-    ensures count { S.calls shelf.new ≡ raised (S.calls shelf.old) }
+    ensures count { S.calls shelf.new ≡ saturating_add (S.calls shelf.old) 1 }
     ensures later { S.faults shelf.old ≤ S.faults shelf.new }
 {
     let bytes = match shelf.load(alloc, name, PROGRAM_LIMIT) {
@@ -61,7 +61,7 @@ pub fn load_listing<S: Shelf>(
         (S.faults shelf.new)) }
     ensures files { (n : List ℕ) → S.held shelf.new n ≡ S.held shelf.old n }
     ensures output { S.said shelf.new ≡ S.said shelf.old }
-    ensures count { S.calls shelf.new ≡ raised (S.calls shelf.old) }
+    ensures count { S.calls shelf.new ≡ saturating_add (S.calls shelf.old) 1 }
     ensures later { S.faults shelf.old ≤ S.faults shelf.new }
 {
     let bytes = match shelf.load(alloc, name, ASM_LIMIT) {

@@ -1,0 +1,4 @@
+pub mod Table
+pub mod Inputs
+pub mod Laws
+pub mod Lines
