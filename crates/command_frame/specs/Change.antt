@@ -34,3 +34,9 @@ pub record IsUntouched (change : Change) : Type 0 where
 abbrev pub HasCalls : Change → ℕ → Type 0
 HasCalls change zero = change.after.calls ≡ change.before.calls
 HasCalls change (suc made) = change.after.calls ≡ saturating_add change.before.calls (suc made)
+
+-- no call was made, and nothing changed
+pub record IsIdle (change : Change) : Type 0 where
+  pub untouched : IsUntouched change
+  pub calls : change.after.calls ≡ change.before.calls
+  pub faults : change.after.faults ≡ change.before.faults

@@ -1,4 +1,4 @@
--- The run of a listing from the stated start state, and the words that it leaves in the output arrays.
+-- `emulate`: the run of a listing from the stated start state, and the words that it leaves in the output arrays.
 use Rattle.std.specs.Prelude.{◌≡◌, ℕ, zero, suc, ◌+◌, ◌*◌, ◌<◌, List, [], ◌∷◌, ◌++◌, length, IsSome, if◌then◌else◌}
 use Rattle.std.specs.Option.{option_map_or}
 use Rattle.std.specs.FinMap as map
@@ -13,8 +13,10 @@ use Rattle.x86_meaning.specs.Machine.{Cells}
 use Rattle.x86_meaning.specs.Runs.{Outcome, Ended, Stuck, run_from}
 use Rattle.x86_meaning.specs.Start.{output_words}
 use Rattle.x86_meaning.specs.Stated.{IsStated, array_address}
-use Rattle.search_top.specs.declared.status.Status.{Status}
-use Rattle.search_top.specs.declared.status.Status.TheVariants as statuses
+use Rattle.command_frame.specs.declared.status.Status.{Status}
+use Rattle.command_frame.specs.declared.status.Status.TheVariants as statuses
+use Rattle.command_frame.specs.Files.{Content, Program, Listing}
+use Rattle.command_frame.specs.Writes.{Output, says}
 use Rattle.search_top.specs.Outputs.{output_lines}
 
 -- ---- the words in the output arrays
@@ -62,10 +64,20 @@ pub record IsStuck (program : Source) (lines : List Line) (inputs : List ℕ) (l
   pub last : State
   pub runs : RunsTo program lines inputs (Stuck line last)
 
--- why there is no run to its end, by cases of the status
-abbrev pub RefusesRun : Source → List Line → List ℕ → Status → Type 0
-RefusesRun program lines inputs (statuses.Stuck line) = IsStuck program lines inputs line
-RefusesRun program lines inputs (statuses.Inputs given wanted) = Refuses program inputs (Count given wanted)
-RefusesRun program lines inputs (statuses.OutOfBounds word) = Refuses program inputs (OutOfBounds word)
-RefusesRun program lines inputs statuses.OutOfMemory = Unit {0}
-RefusesRun program lines inputs status = ⊥
+-- ---- the command
+
+-- the text that tells what the run leaves is said
+abbrev pub EmulateMeans : List ℕ → List Content → Output → Type 0
+EmulateMeans inputs (Program program ∷ Listing listing ∷ []) output = (output ≡ says output.word)
+    × Tells program listing.lines inputs output.word
+EmulateMeans inputs contents output = ⊥
+
+-- the run is stuck, there are other than so many inputs, or one is outside its bounds
+abbrev pub EmulateRefuses : List ℕ → List Content → Status → Type 0
+EmulateRefuses inputs (Program program ∷ Listing listing ∷ []) (statuses.Stuck line) =
+    IsStuck program listing.lines inputs line
+EmulateRefuses inputs (Program program ∷ Listing listing ∷ []) (statuses.Inputs given wanted) =
+    Refuses program inputs (Count given wanted)
+EmulateRefuses inputs (Program program ∷ Listing listing ∷ []) (statuses.OutOfBounds word) =
+    Refuses program inputs (OutOfBounds word)
+EmulateRefuses inputs contents status = ⊥

@@ -1,8 +1,8 @@
 use Rattle.std.proofs.Common.{◌≡◌, sym, subst, string_bytes}
 use Rattle.search_top.specs.Outputs.{output_lines}
-use Rattle.search_top.specs.Emulation.{words_from}
+use Rattle.search_top.specs.Emulate.{words_from}
 use Rattle.search_top.proofs.StatedOutputs.{left_outputs}
-use Rattle.search_top.proofs.emulation.emulated_lines.Goals as goal
+use Rattle.search_top.proofs.emulation.text.Goals as goal
 
 pub returns-in-Err-clause-refused : goal.returns-in-Err-clause-refused
 returns-in-Err-clause-refused c = record {
@@ -15,8 +15,8 @@ returns-in-Err-clause-refused c = record {
   };
 }
 
-pub returns-in-Ok-cell_lines-clause-lines : goal.returns-in-Ok-cell_lines-clause-lines
-returns-in-Ok-cell_lines-clause-lines c = record {
+pub returns-in-Ok-cell_lines-clause-text : goal.returns-in-Ok-cell_lines-clause-text
+returns-in-Ok-cell_lines-clause-text c = record {
   last = c.run.new.state;
   runs = record {
     within = c.in-Ok.ensures.start.inputs_within;
