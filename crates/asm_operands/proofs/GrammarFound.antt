@@ -1,7 +1,6 @@
 -- What the reading of operands finds is written there by the grammar.
 use Rattle.std.proofs.Common.{◌≡◌, ℕ, Bool, true, false, List, [], ◌∷◌, Option, Some, None, cond, ℤ, pos, codes, refl}
 use Rattle.std.proofs.Common.{sym, ap, subst, ◌∙◌}
-use Rattle.std.specs.Prelude.{option_map}
 use Rattle.std.specs.Str.{bytes_eq}
 use Rattle.std.proofs.lemmas.Slice.Eq.{bytes_eq-Decides}
 use Rattle.x86_instr.specs.declared.operand.Reg.{Reg}
@@ -12,7 +11,7 @@ use Rattle.x86_instr.specs.declared.operand.Rm.TheVariants as rms
 use Rattle.x86_instr.specs.declared.operand.Src.{Src}
 use Rattle.x86_instr.specs.declared.operand.Src.TheVariants as srcs
 use Rattle.x86_instr.specs.Ranges.{is_shift_count, is_scale, is_index_reg}
-use Rattle.base.specs.Options.{◌>>=◌, pick, guard}
+use Rattle.base.specs.Options.{◌>>=◌, guard}
 use Rattle.asm_tokens.specs.Tokens.{Token, after, is_spaced}
 use Rattle.base.specs.Numbers.{word}
 use Rattle.asm_operands.specs.Names.{reg_text, byte_reg_text, register_named, byte_register_named}

@@ -7,7 +7,8 @@ use Rattle.x86_instr.specs.declared.operand.Reg.TheVariants.{Rax, Rcx, Rdx, Rbx,
 use Rattle.x86_instr.specs.declared.operand.Reg.TheVariants.{R12, R13, R14, R15}
 use Rattle.x86_instr.specs.declared.mnemonic.Mnemonic.{Mnemonic}
 use Rattle.x86_instr.specs.declared.mnemonic.Mnemonic.TheVariants as names
-use Rattle.asm_operands.specs.Names.{reg_text, byte_reg_text, mnemonic_text, registers, mnemonics, with_names, named_in}
+use Rattle.x86_instr.specs.Registers.{registers}
+use Rattle.asm_operands.specs.Names.{reg_text, byte_reg_text, mnemonic_text, mnemonics, with_names, named_in}
 use Rattle.asm_operands.specs.Names.{register_named, byte_register_named, mnemonic_named}
 
 pub register_back : (r : Reg) → register_named (reg_text r) ≡ Some r

@@ -8,6 +8,7 @@ use Rattle.x86_instr.specs.declared.operand.Reg.TheVariants.{Rax, Rcx, Rdx, Rbx,
 use Rattle.x86_instr.specs.declared.operand.Reg.TheVariants.{R12, R13, R14, R15}
 use Rattle.x86_instr.specs.declared.mnemonic.Mnemonic.{Mnemonic}
 use Rattle.x86_instr.specs.declared.mnemonic.Mnemonic.TheVariants as names
+use Rattle.x86_instr.specs.Registers.{registers}
 
 abbrev pub reg_text : Reg → List ℕ
 reg_text Rax = codes "rax"
@@ -87,10 +88,6 @@ mnemonic_text names.Cmovnc = codes "cmovnc"
 mnemonic_text names.Cmovz = codes "cmovz"
 mnemonic_text names.Cmovnz = codes "cmovnz"
 mnemonic_text names.Ret = codes "ret"
-
-abbrev pub registers : List Reg
-registers =
-    Rax ∷ Rcx ∷ Rdx ∷ Rbx ∷ Rsp ∷ Rbp ∷ Rsi ∷ Rdi ∷ R8 ∷ R9 ∷ R10 ∷ R11 ∷ R12 ∷ R13 ∷ R14 ∷ R15 ∷ []
 
 abbrev pub mnemonics : List Mnemonic
 mnemonics =

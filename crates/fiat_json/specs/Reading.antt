@@ -6,7 +6,7 @@ use Rattle.serde_json.specs.Data.{Data}
 use Rattle.serde_json.specs.Read as json
 use Rattle.word_text.specs.declared.fault.Place.{Place}
 use Rattle.word_program.specs.Program.{Source}
-use Rattle.word_program.specs.Walk.{Fault}
+use Rattle.word_program.specs.Walk.{RuleFault}
 use Rattle.word_program.specs.Rules.{first_fault, program_of}
 use Rattle.fiat_json.specs.declared.fault.ReadFault.{ReadFault}
 use Rattle.fiat_json.specs.declared.fault.ReadFault.TheVariants.{NotJson, Program, Memory}
@@ -17,7 +17,7 @@ abbrev pub Reads : List ℕ → Data → Type 0
 Reads bytes d = IsUtf8 bytes × (json.read bytes ≡ Some d)
 
 -- the first rule that the document breaks: its form, and then what its parts are
-abbrev pub document_fault : Data → Option Fault
+abbrev pub document_fault : Data → Option RuleFault
 document_fault d = option_or (shape_fault d) (first_fault (raw_program d))
 
 -- the bytes are JSON for a document that breaks no rule, and this is its program

@@ -11,7 +11,7 @@ use Rattle.word_text.specs.declared.parts.RawParam.{RawParam}
 use Rattle.word_text.specs.declared.parts.RawOp.{RawOp}
 use Rattle.word_text.specs.declared.parts.RawProgram.{RawProgram}
 use Rattle.base.specs.Options.{◌>>=◌}
-use Rattle.word_program.specs.Walk.{Fault, place_in, at, walk}
+use Rattle.word_program.specs.Walk.{RuleFault, place_in, at, walk}
 
 -- ---- parts of a JSON value
 
@@ -87,21 +87,21 @@ parts_in d = do
   Some (record { name = name; returns = returns; arguments = arguments; body = body })
 
 -- the item of this number has another form
-abbrev pub param_fault : Section → Unit {0} → ℕ → Data → Option Fault
+abbrev pub param_fault : Section → Unit {0} → ℕ → Data → Option RuleFault
 param_fault section u n d = at (place_in section n 0) ((1, is_none (raw_param d)) ∷ [])
 
-abbrev pub op_fault : Unit {0} → ℕ → Data → Option Fault
+abbrev pub op_fault : Unit {0} → ℕ → Data → Option RuleFault
 op_fault u n d = at (place_in Body n 0) ((1, is_none (raw_op d)) ∷ [])
 
 -- the first item of another form: of the returns, then of the arguments, then of the operations
-abbrev pub parts_fault : Parts → Option Fault
+abbrev pub parts_fault : Parts → Option RuleFault
 parts_fault p =
     option_or (walk (param_fault Returns) (λ u d. u) tt 0 p.returns)
     (option_or (walk (param_fault Arguments) (λ u d. u) tt 0 p.arguments)
     (walk op_fault (λ u d. u) tt 0 p.body))
 
 -- The first part of the document that has another form. The document as a whole comes first.
-unfoldable pub shape_fault : Data → Option Fault
+unfoldable pub shape_fault : Data → Option RuleFault
 shape_fault d = option_map_or parts_fault (parts_in d) (Some (1, place_in Top 0 0))
 
 -- the items read so far and this one
@@ -117,10 +117,11 @@ raw_parts p = record {
   returns = fold with_param [] p.returns;
   arguments = fold with_param [] p.arguments;
   body = fold with_op [] p.body;
+  overlap = None;
 }
 
 abbrev pub no_parts : RawProgram
-no_parts = record { name = []; returns = []; arguments = []; body = [] }
+no_parts = record { name = []; returns = []; arguments = []; body = []; overlap = None }
 
 -- the parts of the program that the document writes, where it has no part of another form
 unfoldable pub raw_program : Data → RawProgram

@@ -168,5 +168,6 @@ pub fn raw_program(alloc: Global, value: &Value) -> Result<RawProgram, ProgramFa
         returns,
         arguments,
         body,
+        overlap: None,
     })
 }

@@ -49,6 +49,7 @@ pub fn parts(
         returns: Items::new(alloc),
         arguments: Items::new(alloc),
         body: Items::new(alloc),
+        overlap: None,
     };
     parts.returns.push(array(alloc, "out1", output)?)?;
     parts.arguments.push(array(alloc, "arg1", inputs)?)?;

@@ -82,5 +82,6 @@ pub fn parts(alloc: Global, row: &str) -> Result<RawProgram, AllocError> {
         returns: params(alloc, returns)?,
         arguments: params(alloc, arguments)?,
         body: body(alloc, operations)?,
+        overlap: None,
     })
 }

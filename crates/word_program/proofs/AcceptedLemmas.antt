@@ -9,10 +9,10 @@ use Rattle.base.specs.Identifiers.{is_identifier}
 use Rattle.word_program.specs.declared.operation.Target.{Target}
 use Rattle.word_program.specs.Program.{Source}
 use Rattle.word_program.specs.Walk.{first_code, at, place_in, walk}
-use Rattle.word_program.specs.Rules.{top_rules, params_fault, body_fault, params_of, first_fault, program_of, start}
+use Rattle.word_program.specs.Rules.{is_overlap_if_there, top_rules, params_fault, body_fault, params_of, first_fault, program_of, start}
 use Rattle.word_program.specs.Rules.{scope_after, operation_fault, with_operation}
 use Rattle.word_program.specs.Accepted.{IsAccepted, IsKept, AreOps, IsOutputWord}
-use Rattle.word_program.proofs.RowLemmas.{rows4, at_none, or_none, not_false}
+use Rattle.word_program.proofs.RowLemmas.{rows5, at_none, or_none, not_false}
 use Rattle.word_program.proofs.OpsKept.{ops_kept}
 use Rattle.word_program.proofs.WrittenKept.{AtMostOnce, ops_once, written_once}
 use Rattle.word_program.specs.Values.{is_at}
@@ -34,9 +34,9 @@ pub record IsTop (p : RawProgram) : Type 0 where
 pub top_kept : (p : RawProgram) → first_code (top_rules p) ≡ None → IsTop p
 unfolding top_rules
 top_kept p none =
-    let r = rows4 2 5 6 15 (not (is_identifier p.name)) (nat_lt 6 (length p.returns + length p.arguments))
-    (nat_lt 2048 (length p.body)) (length p.returns == 0) none in
-    record { name = not_false _ r.0; params = at_most _ _ r.1; some_return = some_number _ r.3; ops = at_most _ _ r.2 }
+    let r = rows5 1 2 5 6 15 (not (is_overlap_if_there p.overlap)) (not (is_identifier p.name))
+    (nat_lt 6 (length p.returns + length p.arguments)) (nat_lt 2048 (length p.body)) (length p.returns == 0) none in
+    record { name = not_false _ r.1; params = at_most _ _ r.2; some_return = some_number _ r.4; ops = at_most _ _ r.3 }
 
 -- parts that break no rule are a program that keeps it
 pub accepted : (p : RawProgram) → first_fault p ≡ None → IsAccepted (program_of p)

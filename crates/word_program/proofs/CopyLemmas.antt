@@ -1,7 +1,7 @@
 -- What is known of a program that has the form of a copy.
-use Rattle.std.proofs.Common.{◌≡◌, ℕ, ◌-◌, ◌^◌, true, List, [], ◌∷◌, length, replicate, refl, arith, ◌∙◌, ap}
+use Rattle.std.proofs.Common.{◌≡◌, ℕ, ◌-◌, ◌^◌, true, false, List, [], ◌∷◌, length, replicate, refl, arith, ◌∙◌, ap}
 use Rattle.std.proofs.lemmas.Bool.Decides.{nat_tests}
-use Rattle.std.specs.Prelude.{Some, ◌&&◌, ◌==◌, nat_lt, nat_le, option_and_then}
+use Rattle.std.specs.Prelude.{Some, not, ◌&&◌, ◌==◌, nat_lt, nat_le, option_and_then}
 use Rattle.std.specs.List.{list_all}
 use Rattle.base.proofs.Arithmetic.{equal_by_test}
 use Rattle.base.specs.Options.{guard, only}
@@ -22,7 +22,7 @@ use Rattle.word_program.specs.Values.{is_output, is_input_array}
 use Rattle.word_program.specs.Copy.{copy_params, copy_ops, IsCopy, is_full, copied_words, is_copy_kind, read_word}
 use Rattle.word_program.specs.Copy.{writes_first, copied_index, copy_form}
 use Rattle.base.proofs.Options.{bind_some, guard_some}
-use Rattle.word_program.proofs.RowLemmas.{and_true}
+use Rattle.word_program.proofs.RowLemmas.{and_true, not_true}
 
 bounds_full : (b : Bounds) → is_full b ≡ true → b ≡ full
 bounds_full b e =
@@ -136,11 +136,15 @@ ops_are ops index e =
 pub copy_is : (s : Source) (form : ℕ × ℕ) → copy_form s ≡ Some form → IsCopy s
 unfolding copy_form
 copy_is s form e =
-    let a = bind_some (λ words. option_and_then (λ index. guard (nat_lt index words && nat_le words 32) (words, index))
+    let a = bind_some (λ words. option_and_then (λ index.
+    guard (not s.overlap && (nat_lt index words && nat_le words 32)) (words, index))
     (copied_index s.ops)) (copied_words s.params) form e in
-    let b = bind_some (λ index. guard (nat_lt index a.0 && nat_le a.0 32) (a.0, index)) (copied_index s.ops) form a.2 in
-    let h = guard_some (nat_lt b.0 a.0 && nat_le a.0 32) (a.0, b.0) form b.2 in
-    let t = and_true (nat_lt b.0 a.0) (nat_le a.0 32) h.0 in
+    let b = bind_some (λ index. guard (not s.overlap && (nat_lt index a.0 && nat_le a.0 32)) (a.0, index))
+    (copied_index s.ops) form a.2 in
+    let h = guard_some (not s.overlap && (nat_lt b.0 a.0 && nat_le a.0 32)) (a.0, b.0) form b.2 in
+    let both = and_true (not s.overlap) (nat_lt b.0 a.0 && nat_le a.0 32) h.0 in
+    let t = and_true (nat_lt b.0 a.0) (nat_le a.0 32) both.1 in
+    let overlap : s.overlap ≡ false = not_true s.overlap both.0 in
     let p = params_are s.params a.0 a.1 in
     let o : s.ops ≡ copy_ops b.0 = ops_are s.ops b.0 b.1 in
     let ps : s.params ≡ copy_params p.0 p.1 a.0 = p.2 in
@@ -152,5 +156,5 @@ copy_is s form e =
       index = b.0;
       within = let f = t.0 in grind (arith, nat_tests);
       words_limit = let f = t.1 in grind (arith, nat_tests);
-      is = λ i. record { name = s.name; params = ps i; ops = o i };
+      is = λ i. record { name = s.name; params = ps i; ops = o i; overlap = overlap i };
     }

@@ -4,19 +4,19 @@ use Rattle.std.specs.Prelude.{Option, Some, None, is_none, option_and_then, opti
 use Rattle.std.specs.Option.{option_or}
 use Rattle.word_text.specs.declared.fault.Place.{Place}
 use Rattle.base.specs.Options.{guard}
-use Rattle.word_program.specs.Walk.{Row, Fault, first_code, at}
+use Rattle.word_program.specs.Walk.{Check, RuleFault, first_code, at}
 
 -- where no rule of a table fails, the first does not, and none behind it does
-pub row_passes : (code : ℕ) (b : Bool) (rows : List Row) → first_code ((code, b) ∷ rows) ≡ None
+pub row_passes : (code : ℕ) (b : Bool) (rows : List Check) → first_code ((code, b) ∷ rows) ≡ None
     → (b ≡ false) × (first_code rows ≡ None)
 row_passes code true rows none = absurd (cc)
 row_passes code false rows none = (refl, none)
 
-map_none : (place : Place) (o : Option ℕ) → option_map {U = Fault} (λ code. (code, place)) o ≡ None → o ≡ None
+map_none : (place : Place) (o : Option ℕ) → option_map {U = RuleFault} (λ code. (code, place)) o ≡ None → o ≡ None
 map_none place None none = refl
 map_none place (Some code) none = absurd (cc)
 
-pub at_none : (place : Place) (rows : List Row) → at place rows ≡ None → first_code rows ≡ None
+pub at_none : (place : Place) (rows : List Check) → at place rows ≡ None → first_code rows ≡ None
 at_none place rows none = map_none place (first_code rows) none
 
 pub or_none : {T : Type 0} (o p : Option T) → option_or o p ≡ None → (o ≡ None) × (p ≡ None)
@@ -49,3 +49,11 @@ rows4 a b c d p q r s none =
     let r3 = row_passes c r ((d, s) ∷ []) r2.1 in
     let r4 = row_passes d s [] r3.1 in
     (r1.0, r2.0, r3.0, r4.0)
+
+-- where none of five rules fails, each of them passes
+pub rows5 : (a b c d e : ℕ) (p q r s t : Bool) → first_code ((a, p) ∷ (b, q) ∷ (c, r) ∷ (d, s) ∷ (e, t) ∷ []) ≡ None
+    → (p ≡ false) × (q ≡ false) × (r ≡ false) × (s ≡ false) × (t ≡ false)
+rows5 a b c d e p q r s t none =
+    let first = row_passes a p ((b, q) ∷ (c, r) ∷ (d, s) ∷ (e, t) ∷ []) none in
+    let rest = rows4 b c d e q r s t first.1 in
+    (first.0, rest.0, rest.1, rest.2, rest.3)

@@ -136,12 +136,12 @@ op_decides a b =
     (λ e. (ap (λ x. x.kind) e, (ap (λ x. x.args) e, ap (λ x. x.targets) e)))
     (Decides-and _ _ (kind_decides a.kind b.kind) (Decides-and _ _ args writes))
 
--- programs of the same name and the same parameters are equal where their operations are
+-- programs that agree in all but their operations are equal where these are
 pub same_from : (r : Bool) (a b x y : Source) → a ≡ x → b ≡ y → a.name ≡ b.name → a.params ≡ b.params
-    → Decides r (a.ops ≡ b.ops) → Decides r (x ≡ y)
-same_from r a b x y p q name params d =
+    → a.overlap ≡ b.overlap → Decides r (a.ops ≡ b.ops) → Decides r (x ≡ y)
+same_from r a b x y p q name params overlap d =
     Decides-like r
-    (λ ops. sym p ∙ ((λ i. record { name = name i; params = params i; ops = ops i }) ∙ q))
+    (λ ops. sym p ∙ ((λ i. record { name = name i; params = params i; ops = ops i; overlap = overlap i }) ∙ q))
     (λ e. ap (λ s. s.ops) (p ∙ (e ∙ sym q)))
     d
 

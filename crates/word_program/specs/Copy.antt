@@ -1,5 +1,5 @@
--- The programs that copy one word of an input array to an output array of one word, with no bounds.
-use Rattle.std.specs.Prelude.{◌≡◌, ℕ, ◌-◌, ◌^◌, ◌<◌, ◌≤◌, Bool, true, false, ◌&&◌, ◌==◌, nat_lt, nat_le, List, [], ◌∷◌}
+-- The programs that copy one word of an input array to an output array of one word, with no bounds and no overlap.
+use Rattle.std.specs.Prelude.{◌≡◌, ℕ, ◌-◌, ◌^◌, ◌<◌, ◌≤◌, Bool, true, false, not, ◌&&◌, ◌==◌, nat_lt, nat_le, List, [], ◌∷◌}
 use Rattle.std.specs.Prelude.{length, replicate, Option, None}
 use Rattle.std.specs.List.{list_all}
 use Rattle.base.specs.Options.{◌>>=◌, guard, only}
@@ -34,6 +34,7 @@ copy_of name output input words index = record {
   name = name;
   params = copy_params output input words;
   ops = copy_ops index;
+  overlap = false;
 }
 
 -- the program is one of these
@@ -88,4 +89,4 @@ unfoldable pub copy_form : Source → Option (ℕ × ℕ)
 copy_form source = do
   words ← copied_words source.params
   index ← copied_index source.ops
-  guard (nat_lt index words && nat_le words 32) (words, index)
+  guard (not source.overlap && (nat_lt index words && nat_le words 32)) (words, index)

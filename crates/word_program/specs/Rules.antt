@@ -14,7 +14,7 @@ use Rattle.word_text.specs.declared.parts.RawParam.{RawParam}
 use Rattle.word_text.specs.declared.parts.RawProgram.{RawProgram}
 use Rattle.base.specs.Options.{◌>>=◌, guard}
 use Rattle.base.specs.Identifiers.{is_identifier}
-use Rattle.word_text.specs.Texts.{is_unused, is_word_form, starts_with_digit, word_parts}
+use Rattle.word_text.specs.Texts.{is_overlap, may_overlap, is_unused, is_word_form, starts_with_digit, word_parts}
 use Rattle.base.specs.Numbers.{word}
 use Rattle.word_text.specs.Numbers.{index_below, array_words}
 use Rattle.word_program.specs.declared.parameter.Bounds.{Bounds}
@@ -34,13 +34,19 @@ use Rattle.word_program.specs.Program.{Source, full}
 use Rattle.word_operations.specs.Operations.{kind_named, operand_count, argument_count, result_count, needs_bit}
 use Rattle.word_operations.specs.Operations.{needs_shift, with_shift}
 use Rattle.word_program.specs.Values.{is_output, is_input_array, is_scalar, is_bit_by, op_bits, is_at}
-use Rattle.word_program.specs.Walk.{Row, Fault, place_in, at, walk}
+use Rattle.word_program.specs.Walk.{Check, RuleFault, place_in, at, walk}
 
 -- ---- the program as a whole
 
-unfoldable pub top_rules : RawProgram → List Row
+-- where a text says whether outputs may overlap inputs, it is `any` or `none`
+abbrev pub is_overlap_if_there : Option (List ℕ) → Bool
+is_overlap_if_there None = true
+is_overlap_if_there (Some text) = is_overlap text
+
+unfoldable pub top_rules : RawProgram → List Check
 top_rules p =
-    (2, not (is_identifier p.name))
+    (1, not (is_overlap_if_there p.overlap))
+    ∷ (2, not (is_identifier p.name))
     ∷ (5, nat_lt 6 (length p.returns + length p.arguments))
     ∷ (6, nat_lt 2048 (length p.body))
     ∷ (15, length p.returns == 0)
@@ -105,7 +111,7 @@ bounds_said section param = bounds_of (unwrap_or (datatype_of section param.data
 abbrev pub param_named : List Param → List ℕ → Option ℕ
 param_named params name = position_from (λ p. bytes_eq p.name name) 0 params
 
-unfoldable pub parameter_rules : Section → List Param → RawParam → List Row
+unfoldable pub parameter_rules : Section → List Param → RawParam → List Check
 parameter_rules section params param =
     (2, not (is_identifier param.name))
     ∷ (3, is_none (datatype_of section param.datatype))
@@ -123,7 +129,7 @@ param_of section param = record {
 abbrev pub with_param : Section → List Param → RawParam → List Param
 with_param section params param = params ++ param_of section param ∷ []
 
-abbrev pub parameter_fault : Section → List Param → ℕ → RawParam → Option Fault
+abbrev pub parameter_fault : Section → List Param → ℕ → RawParam → Option RuleFault
 parameter_fault section params n param = at (place_in section n 0) (parameter_rules section params param)
 
 abbrev pub parameters_in : Section → List Param → List RawParam → List Param
@@ -133,7 +139,7 @@ parameters_in section params raws = fold (with_param section) params raws
 abbrev pub params_of : RawProgram → List Param
 params_of p = parameters_in Arguments (parameters_in Returns [] p.returns) p.arguments
 
-abbrev pub params_fault : RawProgram → Option Fault
+abbrev pub params_fault : RawProgram → Option RuleFault
 params_fault p =
     option_or
     (walk (parameter_fault Returns) (with_param Returns) [] 0 p.returns)
@@ -206,7 +212,7 @@ shift_or (Some (operands.Input param number)) = 0
 shift_or (Some (operands.Value number)) = 0
 
 -- the rules of the argument at a place of an operation of this kind
-unfoldable pub argument_rules : Scope → Kind → ℕ → List ℕ → List Row
+unfoldable pub argument_rules : Scope → Kind → ℕ → List ℕ → List Check
 argument_rules s kind place text =
     (9, not (starts_with_digit text) && is_none (operand_of s text))
     ∷ (11, starts_with_digit text && is_none (operand_of s text))
@@ -225,7 +231,7 @@ output_at params text = do
   guard (is_output w.role) w
 
 -- the rules of a result
-unfoldable pub result_rules : Scope → List ℕ → List Row
+unfoldable pub result_rules : Scope → List ℕ → List Check
 result_rules s text =
     (2, not (is_identifier text || (is_unused text || is_word_form text)))
     ∷ (10, is_identifier text && (is_some (param_named s.params text) || is_some (value_named s.names text)))
@@ -248,17 +254,17 @@ kind_or o = unwrap_or o Copy
 abbrev pub has_arity : Kind → RawOp → Bool
 has_arity kind o = length o.arguments == argument_count kind && length o.results == result_count kind
 
-unfoldable pub shape_rules : RawOp → List Row
+unfoldable pub shape_rules : RawOp → List Check
 shape_rules o =
     (7, is_none (kind_named o.operation))
     ∷ (8, not (has_arity (kind_or (kind_named o.operation)) o))
     ∷ []
 
 -- the faults of the argument and of the result with this number, of the operation with the number i
-abbrev pub argument_fault : Scope → ℕ → Kind → Unit {0} → ℕ → List ℕ → Option Fault
+abbrev pub argument_fault : Scope → ℕ → Kind → Unit {0} → ℕ → List ℕ → Option RuleFault
 argument_fault s i kind u n text = at (place_in Body i (1 + n)) (argument_rules s kind n text)
 
-abbrev pub result_fault : ℕ → ℕ → Scope → ℕ → List ℕ → Option Fault
+abbrev pub result_fault : ℕ → ℕ → Scope → ℕ → List ℕ → Option RuleFault
 result_fault i arguments s n text = at (place_in Body i (1 + arguments + n)) (result_rules s text)
 
 -- the scope after a result of an operation
@@ -272,7 +278,7 @@ with_result s text = record {
 }
 
 -- all rules of the first argument come before those of the second, and so on, and then those of the results
-unfoldable pub operation_fault : Scope → ℕ → RawOp → Option Fault
+unfoldable pub operation_fault : Scope → ℕ → RawOp → Option RuleFault
 operation_fault s i o =
     option_or (at (place_in Body i 0) (shape_rules o))
     (option_or (walk (argument_fault s i (kind_or (kind_named o.operation))) (λ u text. u) tt 0 o.arguments)
@@ -310,29 +316,34 @@ scope_after params body = fold with_operation (start params) body
 -- ---- output words
 
 -- the output word is never written
-abbrev pub missing_word : List Target → ℕ → Unit {0} → ℕ → Bounds → Option Fault
+abbrev pub missing_word : List Target → ℕ → Unit {0} → ℕ → Bounds → Option RuleFault
 missing_word ts param u n b = at (place_in Returns param n) ((14, not (is_written ts param n)) ∷ [])
 
 -- the first word of an output parameter that is never written
-abbrev pub missing_in : List Target → Unit {0} → ℕ → Param → Option Fault
+abbrev pub missing_in : List Target → Unit {0} → ℕ → Param → Option RuleFault
 missing_in ts u param p = if is_output p.role then walk (missing_word ts param) (λ u b. u) tt 0 p.bounds else None
 
-unfoldable pub missing : List Param → List Target → Option Fault
+unfoldable pub missing : List Param → List Target → Option RuleFault
 missing params ts = walk (missing_in ts) (λ u p. u) tt 0 params
 
 -- ---- the definition
 
 -- the faults of the operations, and of what they leave unwritten
-abbrev pub body_fault : List Param → List RawOp → Option Fault
+abbrev pub body_fault : List Param → List RawOp → Option RuleFault
 body_fault params body =
     option_or (walk operation_fault with_operation (start params) 0 body)
     (missing params (scope_after params body).targets)
 
 -- The first rule that the parts break. Where there is none, they are a program.
-unfoldable pub first_fault : RawProgram → Option Fault
+unfoldable pub first_fault : RawProgram → Option RuleFault
 first_fault p = option_or (at (place_in Top 0 0) (top_rules p))
     (option_or (params_fault p) (body_fault (params_of p) p.body))
 
 -- the program that the parts are, where they break no rule
 unfoldable pub program_of : RawProgram → Source
-program_of p = record { name = p.name; params = params_of p; ops = (scope_after (params_of p) p.body).ops }
+program_of p = record {
+  name = p.name;
+  params = params_of p;
+  ops = (scope_after (params_of p) p.body).ops;
+  overlap = may_overlap p.overlap;
+}

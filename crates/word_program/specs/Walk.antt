@@ -7,41 +7,41 @@ use Rattle.word_text.specs.declared.fault.Section.{Section}
 use Rattle.word_text.specs.declared.fault.ProgramFault.{ProgramFault}
 use Rattle.word_text.specs.declared.fault.ProgramFault.TheVariants.{Rule, Memory}
 
--- a code, and whether its rule fails
-abbrev pub Row : Type 0
-Row = ℕ × Bool
+-- a rule's code, and whether the rule fails
+abbrev pub Check : Type 0
+Check = ℕ × Bool
 
--- a code, and the place where its rule fails
-abbrev pub Fault : Type 0
-Fault = ℕ × Place
+-- a rule's code, and the place where the rule fails
+abbrev pub RuleFault : Type 0
+RuleFault = ℕ × Place
 
 abbrev pub place_in : Section → ℕ → ℕ → Place
 place_in section item inner = record { section = section; item = item; inner = inner }
 
 -- the code of the first rule that fails
-abbrev pub first_code : List Row → Option ℕ
+abbrev pub first_code : List Check → Option ℕ
 first_code [] = None
-first_code (row ∷ rows) = if row.1 then Some row.0 else first_code rows
+first_code (check ∷ checks) = if check.1 then Some check.0 else first_code checks
 
 -- the first rule that fails, at this place
-abbrev pub at : Place → List Row → Option Fault
-at place rows = option_map (λ code. (code, place)) (first_code rows)
+abbrev pub at : Place → List Check → Option RuleFault
+at place checks = option_map (λ code. (code, place)) (first_code checks)
 
 -- the first fault of the items in order, each under its number, and seen in the state that the items
 -- before it leave
-abbrev pub walk : {S A : Type 0} → (S → ℕ → A → Option Fault) → (S → A → S) → S → ℕ → List A → Option Fault
+abbrev pub walk : {S A : Type 0} → (S → ℕ → A → Option RuleFault) → (S → A → S) → S → ℕ → List A → Option RuleFault
 walk fault next s n [] = None
 walk fault next s n (x ∷ xs) = option_or (fault s n x) (walk fault next (next s x) (n + 1) xs)
 
 -- ---- what code answers
 
 -- a fault is this one, or there is no memory
-abbrev pub IsFault : ProgramFault → Option Fault → Type 0
+abbrev pub IsFault : ProgramFault → Option RuleFault → Type 0
 IsFault (Rule code place) fault = fault ≡ Some (code, place)
 IsFault Memory fault = Unit {0}
 
 -- Ok comes where there is no fault, and else the fault, or there is no memory
-abbrev pub Meets : {X : Type 0} → Result X ProgramFault → Option Fault → Type 0
+abbrev pub Meets : {X : Type 0} → Result X ProgramFault → Option RuleFault → Type 0
 Meets (Ok x) fault = fault ≡ None
 Meets (Err e) fault = IsFault e fault
 

@@ -87,7 +87,7 @@ fn copied_index(ops: &[Op]) -> Option<u8>
 }
 
 /// How many words the input array has, and which one is copied, where the program copies one word of an input
-/// array to an output array of one word, and no parameter has bounds.
+/// array to an output array of one word, no parameter has bounds, and outputs may not overlap inputs.
 #[tactic(auto, unfolding(crate::specs::Copy::copy_form))]
 pub fn copy_form(program: &Program) -> Option<(usize, u8)>
     ensures form { result ≡ spec.copy_form program.now }
@@ -95,7 +95,7 @@ pub fn copy_form(program: &Program) -> Option<(usize, u8)>
 {
     let words = copied_words(program.params())?;
     let index = copied_index(program.ops())?;
-    if (index as usize) < words && words <= 32 {
+    if !program.overlap() && (index as usize) < words && words <= 32 {
         Some((words, index))
     } else {
         None

@@ -1,6 +1,6 @@
-ghost use Rattle.std.specs.Prelude.{◌≡◌, ◌<◌, ◌≤◌, ◌+◌, None, Decides, IfOk, IfErr, OnOk, length, sum_by, take};
+ghost use Rattle.std.specs.Prelude.{◌≡◌, ◌<◌, ◌≤◌, ◌+◌, None, Decides, IfOk, IfErr, OnOk, length, option_map, sum_by, take};
 ghost use Rattle.word_program.specs.Accepted.{IsAccepted, IsKept};
-ghost use Rattle.word_program.specs.Rules.{first_fault, program_of, top_rules};
+ghost use Rattle.word_program.specs.Rules.{first_fault, is_overlap_if_there, program_of, top_rules};
 ghost use Rattle.word_program.specs.Values as values;
 ghost use Rattle.word_program.specs.Walk.{IsFault, Meets, at, place_in};
 
@@ -14,15 +14,16 @@ use crate::params::{memory, parameters, rule};
 use base::{Items, Text, is_identifier};
 use std::alloc::Global;
 use std::marker::Model;
-use word_text::{ProgramFault, RawProgram, Section};
+use word_text::{ProgramFault, RawProgram, Section, is_overlap, may_overlap};
 
 /// A program that the rules accept. Contracts see it as a `Source`: its name, its parameters, the
-/// returns before the arguments, and its operations in order.
+/// returns before the arguments, its operations in order, and whether outputs may overlap inputs.
 #[derive(Drop)]
 pub struct Program {
     name: Text,
     params: Items<Param>,
     ops: Items<Op>,
+    overlap: bool,
     targets: Vec<Target>,
     bits: Vec<bool>,
 }
@@ -32,12 +33,21 @@ impl Model for Program {
 
     ghost Value = { Source };
 
-    ghost view = { λ p. record { name = p.name; params = p.params; ops = p.ops } };
+    ghost view = { λ p. record { name = p.name; params = p.params; ops = p.ops; overlap = p.overlap } };
 
     ghost use Rattle.word_program.specs.Accepted.{IsKept};
 
-    ghost invariant = { λ p. IsKept (record { name = p.name; params = p.params; ops = p.ops }) p.targets.items
-        p.bits.items };
+    ghost invariant = { λ p. IsKept (record { name = p.name; params = p.params; ops = p.ops; overlap = p.overlap })
+        p.targets.items p.bits.items };
+}
+
+fn is_overlap_if_there(text: Option<&Text>) -> bool
+    ensures { result ≡ is_overlap_if_there (option_map (λ t. t.now) text.entry) }
+{
+    match text {
+        None => true,
+        Some(text) => is_overlap(text.as_str()),
+    }
 }
 
 /// The rules of the program as a whole.
@@ -47,6 +57,9 @@ fn top(parts: &RawProgram) -> Result<(), ProgramFault>
     ensures few { OnOk result (length parts.now.returns + length parts.now.arguments ≤ 6) }
     ensures short { OnOk result (length parts.now.body ≤ 2048) }
 {
+    if !is_overlap_if_there(parts.overlap.as_ref()) {
+        return Err(rule(1, Section::Top, 0, 0));
+    }
     if !is_identifier(parts.name.as_str().as_bytes()) {
         return Err(rule(2, Section::Top, 0, 0));
     }
@@ -88,6 +101,7 @@ impl Program {
             name,
             params,
             ops: read.ops,
+            overlap: may_overlap(parts.overlap.as_ref()),
             targets: read.targets,
             bits: read.bits,
         })
@@ -114,6 +128,14 @@ impl Program {
         ensures accepted { IsAccepted self.now }
     {
         self.ops.items()
+    }
+
+    /// Whether outputs may overlap inputs: the arrays that the function writes may share memory with those that it
+    /// reads.
+    pub fn overlap(&self) -> bool
+        ensures { result ≡ self.now.overlap }
+    {
+        self.overlap
     }
 
     /// How many values it has: the results of all operations.
@@ -153,7 +175,8 @@ impl Program {
         self.targets.as_slice()
     }
 
-    /// Whether the two programs are equal: their names, their parameters and their operations.
+    /// Whether the two programs are equal: their names, their parameters, their operations, and whether outputs may
+    /// overlap inputs.
     pub fn same(&self, other: &Program) -> bool
         ensures { Decides result (self.now ≡ other.now) }
     {
@@ -161,6 +184,9 @@ impl Program {
             return false;
         }
         if self.params != other.params {
+            return false;
+        }
+        if self.overlap != other.overlap {
             return false;
         }
         self.ops == other.ops

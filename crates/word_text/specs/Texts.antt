@@ -1,6 +1,7 @@
 -- The texts of a program: unused results, and the words of arrays, in this project's form after Fiat Cryptography's
 -- JSON. A text is the list of its bytes.
-use Rattle.std.specs.Prelude.{ℕ, Bool, false, not, ◌&&◌, ◌==◌, nat_lt, List, [], ◌∷◌, length, Option, is_some}
+use Rattle.std.specs.Prelude.{ℕ, Bool, false, not, ◌&&◌, ◌||◌, ◌==◌, nat_lt, List, [], ◌∷◌, length, codes, Option}
+use Rattle.std.specs.Prelude.{Some, None, is_some}
 use Rattle.std.specs.List.{list_all, position_or_len, before_first, after_first}
 use Rattle.std.specs.Str.{bytes_eq}
 use Rattle.std.specs.Char.{is_ascii_digit}
@@ -42,6 +43,15 @@ unfoldable pub word_parts : List ℕ → Option (List ℕ × List ℕ)
 word_parts text = do
   parts ← bracketed text
   guard (is_identifier parts.0 && is_index parts.1) parts
+
+-- whether outputs may overlap inputs: `any` or `none`
+abbrev pub is_overlap : List ℕ → Bool
+is_overlap text = bytes_eq text (codes "any") || bytes_eq text (codes "none")
+
+-- outputs may overlap inputs where the text is `any`; a program that says nothing means `none`
+abbrev pub may_overlap : Option (List ℕ) → Bool
+may_overlap None = false
+may_overlap (Some text) = bytes_eq text (codes "any")
 
 -- it has the form `name[index]`; no identifier has it, nor has `_`
 abbrev pub is_word_form : List ℕ → Bool

@@ -10,6 +10,9 @@ mod parts;
 
 pub use base::{Items, Text};
 pub use fault::{Place, ProgramFault, Section};
-pub use names::{bracketed, is_index, is_unused, is_word_form, starts_with_digit, word_parts};
+pub use names::{
+    bracketed, is_index, is_overlap, is_unused, is_word_form, may_overlap, starts_with_digit,
+    word_parts,
+};
 pub use numbers::{array_words, index_below};
 pub use parts::{RawOp, RawOps, RawParam, RawParams, RawProgram, Texts};

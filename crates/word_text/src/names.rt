@@ -2,7 +2,7 @@ ghost use Rattle.std.specs.Prelude.{◌≡◌, option_map};
 ghost use Rattle.std.specs.List.{list_all};
 ghost use Rattle.word_text.specs.Texts as spec;
 
-use base::is_identifier;
+use base::{Text, is_identifier};
 
 /// Whether the text is `_`, the name of a result that nothing reads.
 pub fn is_unused(text: &str) -> bool
@@ -35,6 +35,23 @@ pub fn is_index(text: &str) -> bool
         [] => false,
         [only] => only.is_ascii_digit(),
         [first, rest @ ..] => first.is_ascii_digit() && *first != b'0' && are_decimal(rest),
+    }
+}
+
+/// Whether the text says if outputs may overlap inputs: it is `any` or `none`.
+pub fn is_overlap(text: &str) -> bool
+    ensures { result ≡ spec.is_overlap text.now }
+{
+    text == "any" || text == "none"
+}
+
+/// Whether outputs may overlap inputs: exactly where the text is `any`. A program without one means `none`.
+pub fn may_overlap(text: Option<&Text>) -> bool
+    ensures { result ≡ spec.may_overlap (option_map (λ t. t.now) text.entry) }
+{
+    match text {
+        None => false,
+        Some(text) => text.as_str() == "any",
     }
 }
 

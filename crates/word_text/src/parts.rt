@@ -26,11 +26,13 @@ pub struct RawOp {
 /// A list of operations as texts.
 pub type RawOps = Items<RawOp>;
 
-/// A program as its file spells it, before any rule is checked.
+/// A program as its file spells it, before any rule is checked. Where it says whether outputs may overlap inputs,
+/// `overlap` is that text.
 #[derive(Drop)]
 pub struct RawProgram {
     pub name: Text,
     pub returns: RawParams,
     pub arguments: RawParams,
     pub body: RawOps,
+    pub overlap: Option<Text>,
 }

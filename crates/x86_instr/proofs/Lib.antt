@@ -1,1 +1,3 @@
 pub mod FitsLemmas
+pub mod Equality
+pub mod RegisterList

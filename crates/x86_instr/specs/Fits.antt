@@ -1,6 +1,7 @@
 -- The ranges that the types of instructions and lines keep (Intel Software Developer's Manual, volume 2,
 -- section 2.2.1 on displacements and immediates at 64-bit operand size, beside the ranges of `Ranges`).
 use Rattle.std.specs.Prelude.{◌≡◌, ◌<◌, ◌^◌, ℕ, true, List, [], ◌∷◌, Option, Some, None, ℤ, pos, negsuc}
+use Rattle.base.specs.declared.limits.TheConstants.{MAX_OPERATIONS}
 use Rattle.x86_instr.specs.declared.operand.Index.{Index}
 use Rattle.x86_instr.specs.declared.operand.Mem.{Mem}
 use Rattle.x86_instr.specs.declared.operand.Rm.{Rm}
@@ -59,7 +60,7 @@ FitsInstr instrs.Ret = Unit {0}
 
 abbrev pub FitsOwner : Option ℕ → Type 0
 FitsOwner None = Unit {0}
-FitsOwner (Some op) = op < 2048
+FitsOwner (Some op) = op < MAX_OPERATIONS
 
 abbrev pub FitsLines : List Line → Type 0
 FitsLines [] = Unit {0}

@@ -5,3 +5,5 @@ pub mod Owned
 pub mod Mnemonics
 pub mod Listings
 pub mod Frame
+pub mod Access
+pub mod Flags

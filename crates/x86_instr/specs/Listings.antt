@@ -1,5 +1,6 @@
 -- Which lines make a listing.
 use Rattle.std.specs.Prelude.{ℕ, Bool, true, false, List, [], ◌∷◌, length, nat_lt, if◌then◌else◌, Result, Ok, Err}
+use Rattle.base.specs.declared.limits.TheConstants.{MAX_LINES}
 use Rattle.x86_instr.specs.declared.instr.Instr.{Instr}
 use Rattle.x86_instr.specs.declared.instr.Instr.TheVariants as instrs
 use Rattle.x86_instr.specs.declared.line.Line.{Line}
@@ -12,28 +13,8 @@ pub record NamedLines : Type 0 where
   pub lines : List Line
 
 abbrev pub is_ret : Instr → Bool
-is_ret (instrs.Mov dst src) = false
-is_ret (instrs.MovImm dst imm) = false
-is_ret (instrs.Store mem src) = false
-is_ret (instrs.Lea dst mem) = false
-is_ret (instrs.Bin op dst src) = false
-is_ret (instrs.Test a b) = false
-is_ret (instrs.Un op dst) = false
-is_ret (instrs.Adcx dst src) = false
-is_ret (instrs.Adox dst src) = false
-is_ret (instrs.Mulx hi lo src) = false
-is_ret (instrs.Mul src) = false
-is_ret (instrs.Imul dst src) = false
-is_ret (instrs.Shl dst by) = false
-is_ret (instrs.Shr dst by) = false
-is_ret (instrs.Shrd dst src by) = false
-is_ret (instrs.Shlx dst src count) = false
-is_ret (instrs.Shrx dst src count) = false
-is_ret (instrs.Set cond dst) = false
-is_ret (instrs.Movzx dst src) = false
-is_ret (instrs.Cmov cond dst src) = false
-is_ret instrs.Clc = false
 is_ret instrs.Ret = true
+is_ret _ = false
 
 abbrev pub is_empty : List Line → Bool
 is_empty [] = true
@@ -47,5 +28,5 @@ ends_at_ret (line ∷ lines) = if is_ret line.instr then is_empty lines else end
 -- the listing with this name and these lines, or why there is none
 abbrev pub listing_of : List ℕ → List Line → Result NamedLines ListingFault
 listing_of name lines =
-    if nat_lt 65536 (length lines) then Err TooLong
+    if nat_lt MAX_LINES (length lines) then Err TooLong
     else (if ends_at_ret lines then Ok (record { name = name; lines = lines }) else Err NoReturn)

@@ -1,5 +1,5 @@
--- The registers' numbers (Intel Software Developer's Manual, volume 2, section 3.1.1.1, table 3-1).
-use Rattle.std.specs.Prelude.{ℕ}
+-- The registers and their numbers (Intel Software Developer's Manual, volume 2, section 3.1.1.1, table 3-1).
+use Rattle.std.specs.Prelude.{ℕ, List, [], ◌∷◌}
 use Rattle.x86_instr.specs.declared.operand.Reg.{Reg}
 use Rattle.x86_instr.specs.declared.operand.Reg.TheVariants.{Rax, Rcx, Rdx, Rbx, Rsp, Rbp, Rsi, Rdi, R8, R9, R10, R11}
 use Rattle.x86_instr.specs.declared.operand.Reg.TheVariants.{R12, R13, R14, R15}
@@ -21,3 +21,8 @@ number_of R12 = 12
 number_of R13 = 13
 number_of R14 = 14
 number_of R15 = 15
+
+-- all registers, in the order of their numbers
+abbrev pub registers : List Reg
+registers =
+    Rax ∷ Rcx ∷ Rdx ∷ Rbx ∷ Rsp ∷ Rbp ∷ Rsi ∷ Rdi ∷ R8 ∷ R9 ∷ R10 ∷ R11 ∷ R12 ∷ R13 ∷ R14 ∷ R15 ∷ []

@@ -6,7 +6,7 @@ use crate::ranges::ShiftCount;
 
 /// A condition on one flag: it is set, or, with an `N`, clear. `O` is the overflow flag, `C` the carry and
 /// `Z` the zero flag.
-#[derive(Clone, Copy)]
+#[derive(Clone, Copy, Debug, PartialEq, Eq)]
 pub enum Cond {
     O,
     No,
@@ -17,7 +17,7 @@ pub enum Cond {
 }
 
 /// An operation on a destination register and a source.
-#[derive(Clone, Copy)]
+#[derive(Clone, Copy, Debug, PartialEq, Eq)]
 pub enum Bin {
     /// `add`
     Add,
@@ -38,7 +38,7 @@ pub enum Bin {
 }
 
 /// An operation on one register.
-#[derive(Clone, Copy)]
+#[derive(Clone, Copy, Debug, PartialEq, Eq)]
 pub enum Un {
     /// `inc`
     Inc,

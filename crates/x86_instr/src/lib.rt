@@ -8,7 +8,10 @@
 //! 64-bit operand size, but for `setcc`, which writes a byte, and `movzx`, which reads one.
 #![tactic(auto)]
 
+mod access;
+mod flags;
 mod instr;
+mod laws;
 mod line;
 mod listing;
 mod mnemonic;
@@ -16,11 +19,14 @@ mod operand;
 mod owner;
 mod ranges;
 
+pub use access::Access;
 pub use base::Text;
+pub use flags::Flags;
 pub use instr::{Bin, Cond, Instr, Un};
+pub use laws::registers_stand_at_their_numbers;
 pub use line::{Line, Lines};
-pub use listing::{Listing, ListingFault};
+pub use listing::{Listing, ListingFault, MAX_FRAME_BYTES};
 pub use mnemonic::{Mnemonic, mnemonic_of};
-pub use operand::{Index, Mem, Reg, Rm, Src};
+pub use operand::{Index, Mem, REGISTERS, Reg, Rm, Src};
 pub use owner::Owner;
 pub use ranges::{IndexReg, Scale, ShiftCount};

@@ -6,13 +6,17 @@ ghost use Rattle.x86_instr.specs.Frame as spec;
 use crate::instr::{Bin, Instr};
 use crate::line::{Line, Lines};
 use crate::operand::{Reg, Src};
-use base::Text;
+use base::{MAX_LINES, MAX_OPERATIONS, MAX_PARAMS, Text};
 use std::alloc::Global;
 use std::marker::Model;
 use thiserror::Error;
 
+/// How many bytes of the stack a listing may reserve: a word for each parameter of a program, and two for
+/// each operation.
+pub const MAX_FRAME_BYTES: usize = 8 * (MAX_PARAMS + 2 * MAX_OPERATIONS);
+
 /// Why lines are no listing.
-#[derive(Clone, Copy, Debug, Error)]
+#[derive(Clone, Copy, Debug, PartialEq, Eq, Error)]
 pub enum ListingFault {
     /// There are more than 65,536 lines.
     #[error("more than 65536 lines")]
@@ -34,13 +38,14 @@ pub struct Listing {
 impl Model for Listing {
     ghost use Rattle.std.specs.Prelude.{◌≡◌, ◌≤◌, true, length};
     ghost use Rattle.x86_instr.specs.Fits.{FitsLines};
+    ghost use Rattle.base.specs.declared.limits.TheConstants.{MAX_LINES};
     ghost use Rattle.x86_instr.specs.Listings.{NamedLines, ends_at_ret};
 
     ghost Value = { NamedLines };
 
     ghost view = { λ l. record { name = l.name; lines = l.lines } };
 
-    ghost invariant = { λ l. (length l.lines ≤ 65536) × (ends_at_ret l.lines ≡ true) × FitsLines l.lines };
+    ghost invariant = { λ l. (length l.lines ≤ MAX_LINES) × (ends_at_ret l.lines ≡ true) × FitsLines l.lines };
 }
 
 impl Listing {
@@ -51,7 +56,7 @@ impl Listing {
         ensures listing { result ≡ listing_of name lines }
         ensures kept { IfOk result (λ l. (l.name ≡ name) × (l.lines ≡ lines)) }
     {
-        if lines.items().len() > 65536 {
+        if lines.items().len() > MAX_LINES {
             return Err(ListingFault::TooLong);
         }
         if !ends_at_ret(lines.items()) {
@@ -70,7 +75,7 @@ impl Listing {
     /// The lines in order.
     pub fn lines(&self) -> &[Line]
         ensures lines { result.now ≡ self.now.lines }
-        ensures short { length self.now.lines ≤ 65536 }
+        ensures short { length self.now.lines ≤ MAX_LINES }
         ensures ends { ends_at_ret self.now.lines ≡ true }
         ensures fits { FitsLines self.now.lines }
     {
@@ -117,7 +122,7 @@ fn reserved_by(instr: Instr) -> u32
 fn frame_in(bytes: i32) -> u32
     ensures { result ≡ spec.frame_bytes bytes }
 {
-    if bytes >= 8 && bytes <= 32816 && bytes % 8 == 0 {
+    if bytes >= 8 && bytes <= MAX_FRAME_BYTES as i32 && bytes % 8 == 0 {
         return bytes as u32;
     }
     0

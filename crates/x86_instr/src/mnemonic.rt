@@ -4,7 +4,7 @@ ghost use Rattle.x86_instr.specs.Mnemonics as spec;
 use crate::instr::{Bin, Cond, Instr, Un};
 
 /// The mnemonics of the instructions, each under its own name.
-#[derive(Clone, Copy)]
+#[derive(Clone, Copy, Debug, PartialEq, Eq)]
 pub enum Mnemonic {
     Mov,
     Movzx,

@@ -4,7 +4,7 @@ ghost use Rattle.x86_instr.specs.Registers.{number_of};
 use crate::ranges::{IndexReg, Scale};
 
 /// A general register of 64 bits.
-#[derive(Clone, Copy)]
+#[derive(Clone, Copy, Debug, PartialEq, Eq)]
 pub enum Reg {
     Rax,
     Rcx,
@@ -23,6 +23,26 @@ pub enum Reg {
     R14,
     R15,
 }
+
+/// All registers, in the order of their numbers.
+pub const REGISTERS: [Reg; 16] = [
+    Reg::Rax,
+    Reg::Rcx,
+    Reg::Rdx,
+    Reg::Rbx,
+    Reg::Rsp,
+    Reg::Rbp,
+    Reg::Rsi,
+    Reg::Rdi,
+    Reg::R8,
+    Reg::R9,
+    Reg::R10,
+    Reg::R11,
+    Reg::R12,
+    Reg::R13,
+    Reg::R14,
+    Reg::R15,
+];
 
 impl Reg {
     /// The register's number in the encoding of instructions, from 0 for `rax` to 15 for `r15`.
@@ -51,14 +71,14 @@ impl Reg {
 }
 
 /// An index register and its scale, by which it is multiplied.
-#[derive(Clone, Copy)]
+#[derive(Clone, Copy, PartialEq, Eq)]
 pub struct Index {
     pub reg: IndexReg,
     pub scale: Scale,
 }
 
 /// A memory operand: the word at `base + index * scale + disp`, modulo 2^64.
-#[derive(Clone, Copy)]
+#[derive(Clone, Copy, PartialEq, Eq)]
 pub struct Mem {
     pub base: Reg,
     pub index: Option<Index>,
@@ -66,14 +86,14 @@ pub struct Mem {
 }
 
 /// A register or memory source.
-#[derive(Clone, Copy)]
+#[derive(Clone, Copy, PartialEq, Eq)]
 pub enum Rm {
     Reg(Reg),
     Mem(Mem),
 }
 
 /// A register, memory or immediate source. An immediate is extended with its sign to 64 bits.
-#[derive(Clone, Copy)]
+#[derive(Clone, Copy, PartialEq, Eq)]
 pub enum Src {
     Reg(Reg),
     Mem(Mem),

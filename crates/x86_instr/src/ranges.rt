@@ -6,7 +6,7 @@ use crate::operand::Reg;
 use std::marker::Model;
 
 /// A count of bits to shift by, from 1 to 63. Contracts see the number.
-#[derive(Clone, Copy)]
+#[derive(Clone, Copy, PartialEq, Eq)]
 pub struct ShiftCount {
     bits: u8,
 }
@@ -45,7 +45,7 @@ impl ShiftCount {
 }
 
 /// What an index is multiplied by: 1, 2, 4 or 8. Contracts see the number.
-#[derive(Clone, Copy)]
+#[derive(Clone, Copy, PartialEq, Eq)]
 pub struct Scale {
     factor: u8,
 }
@@ -84,7 +84,7 @@ impl Scale {
 }
 
 /// A register that may be an index: any but `rsp`. Contracts see the register.
-#[derive(Clone, Copy)]
+#[derive(Clone, Copy, PartialEq, Eq)]
 pub struct IndexReg {
     reg: Reg,
 }
@@ -108,7 +108,7 @@ impl IndexReg {
     pub fn new(reg: Reg) -> Option<IndexReg>
         ensures { result ≡ if is_index_reg reg then Some reg else None }
     {
-        if reg.number() == 4 {
+        if reg == Reg::Rsp {
             return None;
         }
         Some(IndexReg { reg })

@@ -67,4 +67,4 @@ emptied m e = ap map.from_entries e
 pub aligned_held : (cells : Cells) (address : ℕ) (o : Option ℕ) → AreAligned cells → o ≡ map.get cells address
     → IfSome o (λ _. address % 8 ≡ 0)
 aligned_held cells address None a e = tt
-aligned_held cells address (Some word) a e = an address (sym (ap is_some e))
+aligned_held cells address (Some word) a e = a address (sym (ap is_some e))

@@ -1,5 +1,5 @@
 -- What a listing reserves of the stack: a multiple of 8, and at most 32,816 bytes.
-use Rattle.std.proofs.Common.{◌≡◌, ℕ, ◌%◌, ◌≤◌, ◌==◌, Bool, true, false, List, [], ◌∷◌, if◌then◌else◌, ℤ, pos, negsuc}
+use Rattle.std.proofs.Common.{◌≡◌, ℕ, ◌%◌, ◌≤◌, Bool, true, false, List, [], ◌∷◌, if◌then◌else◌, ℤ, pos, negsuc}
 use Rattle.std.proofs.Common.{refl, arith}
 use Rattle.std.proofs.lemmas.Bool.Decides.{nat_tests}
 use Rattle.x86_instr.specs.declared.operand.Reg.{Reg}
@@ -11,12 +11,12 @@ use Rattle.x86_instr.specs.declared.instr.Bin.TheVariants.{Sub}
 use Rattle.x86_instr.specs.declared.instr.Instr.{Instr}
 use Rattle.x86_instr.specs.declared.instr.Instr.TheVariants as instrs
 use Rattle.x86_instr.specs.declared.line.Line.{Line}
-use Rattle.x86_instr.specs.Registers.{number_of}
-use Rattle.x86_instr.specs.Frame.{is_frame, frame_bytes, frame_in, frame_by, reserved_by, frame_of}
+use Rattle.x86_instr.specs.declared.listing.TheConstants.{MAX_FRAME_BYTES}
+use Rattle.x86_instr.specs.Frame.{is_frame, frame_bytes, reserved_by, frame_of}
 
 -- a number of bytes that may be reserved
 pub record IsFrame (n : ℕ) : Type 0 where
-  pub most : n ≤ 32816
+  pub most : n ≤ MAX_FRAME_BYTES
   pub eights : n % 8 ≡ 0
 
 none : IsFrame 0
@@ -30,21 +30,8 @@ bytes_frame : (n : ℤ) → IsFrame (frame_bytes n)
 bytes_frame (pos n) = tested n (is_frame n) refl
 bytes_frame (negsuc n) = none
 
-src_frame : (src : Src) → IsFrame (frame_in src)
-src_frame (srcs.Reg r) = none
-src_frame (srcs.Mem mem) = none
-src_frame (srcs.Imm n) = bytes_frame n
-
-chosen : (b : Bool) (n : ℕ) → IsFrame n → IsFrame (if b then n else 0)
-chosen true n h = h
-chosen false n h = none
-
-bin_frame : (op : Bin) (dst : Reg) (src : Src) → IsFrame (frame_by op dst src)
-bin_frame Sub dst src = chosen (number_of dst == number_of Rsp) (frame_in src) (src_frame src)
-bin_frame op dst src = none
-
 instr_frame : (instr : Instr) → IsFrame (reserved_by instr)
-instr_frame (instrs.Bin op dst src) = bin_frame op dst src
+instr_frame (instrs.Bin Sub Rsp (srcs.Imm n)) = bytes_frame n
 instr_frame instr = none
 
 -- of every listing

@@ -1,3 +1,4 @@
+-- The lines before this one have no `ret`.
 use Rattle.std.proofs.Common.{◌≡◌, drop}
 use Rattle.x86_instr.specs.Listings.{ends_at_ret}
 use Rattle.x86_instr.proofs.listing.ends_at_ret.Given as goal

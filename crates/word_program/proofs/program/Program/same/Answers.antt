@@ -1,6 +1,9 @@
+-- Two programs are equal where each of their parts is.
 use Rattle.std.proofs.Common.{refl}
+use Rattle.std.specs.Cmp.{booleans_Decides}
 use Rattle.std.proofs.lemmas.Bool.Decides.{not_from_Decides}
 use Rattle.std.proofs.lemmas.Slice.Eq.{slice_eq-Decides, bytes_eq-Decides}
+use Rattle.word_program.proofs.RowLemmas.{not_false}
 use Rattle.word_program.proofs.SameLemmas.{op_decides, param_decides, same_from, differ_from, turned_true, turned_false}
 use Rattle.word_program.proofs.program.Program.same.Goals as goal
 
@@ -20,4 +23,5 @@ pub returns : goal.returns
 returns c =
     let name = (bytes_eq-Decides _ _).0 (turned_false _ _ c.ne.ensures c.if-ne.false) in
     let params = (slice_eq-Decides param_decides _ _ _ refl).0 (turned_false _ _ c.ne-2.ensures c.if-ne-2.false) in
-    same_from _ _ _ _ _ c.self.view_is c.other.view_is name params (slice_eq-Decides op_decides _ _ _ c.eq.ensures)
+    same_from _ _ _ _ _ c.self.view_is c.other.view_is name params
+    ((booleans_Decides _ _).0 (not_false _ c.if-self-other.false)) (slice_eq-Decides op_decides _ _ _ c.eq.ensures)

@@ -22,11 +22,11 @@ invariant_of-self c =
           ∙ ap (λ o. is_some (option_copied_mut o)) w.in-Some.is in
           subst AreAligned (sym (ap (λ i. cells_of i.words) w.self-inside-is
           ∙ replaced c.self.inside.words (c.get_mut.follows.lender c.args.word) c.args.address c.args.word
-          (c.get_mut.follows.condition_holds c.args.word)
+          (c.get_mut.follows.holds c.args.word)
           (ap is_some (sym (held c.self.inside.words c.args.address)) ∙ there)))
           (aligned_put old c.args.address c.args.word c.self.invariant (c.self.invariant c.args.address there))
       | in-None w ↦ subst AreAligned (sym (ap (λ i. cells_of i.words) w.self-inside-is
-          ∙ ap cells_of c.get_mut.follows.condition_holds-at-none)) c.self.invariant
+          ∙ ap cells_of c.get_mut.follows.holds-at-none)) c.self.invariant
     ]
 
 pub returns-clause-there : goal.returns-clause-there
@@ -43,7 +43,7 @@ returns-clause-cells c =
           let there = lent c ∙ ap (λ o. is_some (option_copied_mut o)) w.in-Some.is in
           ap (λ i. cells_of i.words) w.self-inside-is
           ∙ (replaced c.self.inside.words (c.get_mut.follows.lender c.args.word) c.args.address c.args.word
-          (c.get_mut.follows.condition_holds c.args.word)
+          (c.get_mut.follows.holds c.args.word)
           (ap is_some (sym c.get_mut.ensures.value) ∙ ap (λ o. is_some (option_copied_mut o)) w.in-Some.is)
           ∙ (ap (λ m. map.insert m c.args.address c.args.word) c.self.view_is
           ∙ sym (ap (λ b. if b then map.insert c.args.self.now c.args.address c.args.word else c.args.self.now)
@@ -51,7 +51,7 @@ returns-clause-cells c =
       | in-None w ↦
           let there = lent c ∙ ap (λ o. is_some (option_copied_mut o)) w.in-None.is in
           ap (λ i. cells_of i.words) w.self-inside-is
-          ∙ (ap cells_of c.get_mut.follows.condition_holds-at-none
+          ∙ (ap cells_of c.get_mut.follows.holds-at-none
           ∙ (c.self.view_is ∙ sym (ap (λ b. if b then map.insert c.args.self.now c.args.address c.args.word else
           c.args.self.now) there)))
     ]
