@@ -1,3 +1,4 @@
 pub mod CopyIsCorrect
 pub mod OutputWords
 pub mod StatedOutputs
+pub mod SearchEnds

@@ -1,7 +1,7 @@
 ghost use Rattle.std.specs.Prelude.{◌≡◌, [], ◌∷◌, IfOk, IfErr, string_bytes};
 ghost use Rattle.command_frame.specs.Change.{change_of};
 ghost use Rattle.command_frame.specs.Ends.{RefusesWork};
-ghost use Rattle.command_frame.specs.Files.{Program};
+ghost use Rattle.command_frame.specs.Files as files;
 ghost use Rattle.command_frame.specs.Writes.{says};
 ghost use Rattle.search_top.specs.Commands.{EndsAs};
 ghost use Rattle.search_top.specs.Eval.{EvalMeans, EvalRefuses};
@@ -34,8 +34,8 @@ pub fn eval_file<S: Shelf>(alloc: Global, program: Text, inputs: &[u64], shelf: 
 
 /// The lines of the outputs.
 fn text(alloc: Global, program: &Program, inputs: &[u64]) -> Result<String, Status>
-    ensures text { IfOk result (λ text. EvalMeans inputs.now (Program program.now ∷ []) (says (string_bytes text))) }
-    ensures refused { IfErr result (RefusesWork (EvalRefuses inputs.now (Program program.now ∷ []))) }
+    ensures text { IfOk result (λ text. EvalMeans inputs.now (files.Program program.now ∷ []) (says (string_bytes text))) }
+    ensures refused { IfErr result (RefusesWork (EvalRefuses inputs.now (files.Program program.now ∷ []))) }
 {
     let words = match eval(alloc, program, inputs) {
         Ok(words) => words,

@@ -12,7 +12,7 @@ use std::alloc::Global;
 
 /// Publishes the plain listing of the program in a file under the name `asm`.
 fn search_file<S: Shelf>(alloc: Global, program: Text, asm: Text, shelf: &mut S) -> Status
-    ensures answer { EndsAs (Command.Search program asm)
+    ensures { EndsAs (Command.Search program asm)
         (change_of S.held S.said S.calls S.faults shelf.old shelf.new) result }
 {
     let Ok(output) = output_name(alloc) else {
