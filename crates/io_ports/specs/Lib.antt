@@ -1,3 +1,4 @@
+pub mod HostShelf
 pub mod MemoryShelf
-pub mod Reader
 pub mod Shelf
+pub mod Transfers

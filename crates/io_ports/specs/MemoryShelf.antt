@@ -1,13 +1,9 @@
 -- What a `MemoryShelf` has: its files by name, its output, its two counts, and the numbers of the calls that are to
 -- fail. The words are this project's own.
-use Rattle.std.specs.Prelude.{ℕ, List, Contains, option_map, Ok, Err}
+use Rattle.std.specs.Prelude.{ℕ, List, Contains, option_map}
 use Rattle.std.specs.declared.option.Option.{Option}
-use Rattle.std.specs.declared.result.Result.{Result}
 use Rattle.std.specs.BTreeMap.{get_by_text}
-use Rattle.io_ports.specs.declared.fault.Fault.{Fault}
-use Rattle.io_ports.specs.declared.fault.Fault.TheVariants.{Failed, TooLong, Memory}
 use Rattle.io_ports.specs.declared.memory.MemoryShelf.{MemoryShelf}
-use Rattle.io_ports.specs.Shelf.{raised}
 
 -- the bytes of the file of that name, if it is there
 abbrev pub file_of : MemoryShelf → List ℕ → Option (List ℕ)
@@ -32,10 +28,3 @@ failing_calls_of s = s.fails.items
 -- the next call is to fail
 abbrev pub IsToFail : MemoryShelf → Type 0
 IsToFail s = Contains (failing_calls_of s) (call_of s)
-
--- the count of faults after a call with this answer: it rises exactly at `Failed`
-abbrev pub faults_after : {T : Type 0} → ℕ → Result T Fault → ℕ
-faults_after before (Ok value) = before
-faults_after before (Err Failed) = raised before
-faults_after before (Err TooLong) = before
-faults_after before (Err Memory) = before

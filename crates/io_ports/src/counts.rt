@@ -1,6 +1,6 @@
 //! The two counts that a shelf keeps.
 ghost use Rattle.std.specs.Prelude.{◌≡◌, ◌≤◌};
-ghost use Rattle.io_ports.specs.Shelf.{raised};
+ghost use Rattle.io_ports.specs.Shelf.{saturating_add};
 
 use super::fault::Fault;
 
@@ -24,14 +24,14 @@ impl Counts {
 
     // Counts a call.
     pub fn begin(&mut self)
-        ensures { self.new ≡ record self.old { calls = raised self.old.calls } }
+        ensures { self.new ≡ record self.old { calls = saturating_add self.old.calls 1 } }
     {
         self.calls = self.calls.saturating_add(1);
     }
 
     // Counts a fault, and gives the answer of a call that failed.
     pub fn fault(&mut self) -> Fault
-        ensures state { self.new ≡ record self.old { faults = raised self.old.faults } }
+        ensures state { self.new ≡ record self.old { faults = saturating_add self.old.faults 1 } }
         ensures later { self.old.faults ≤ self.new.faults }
         ensures answer { result ≡ Fault.Failed }
     {

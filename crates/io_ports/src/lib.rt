@@ -11,6 +11,7 @@ mod fault;
 mod host;
 mod memory;
 mod shelf;
+mod transfers;
 
 pub use fault::Fault;
 pub use host::HostShelf;

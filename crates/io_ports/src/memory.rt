@@ -2,7 +2,7 @@
 ghost use Rattle.std.specs.Prelude.{◌≡◌, ◌≢◌, ◌↔◌, ◌⊎◌, ℕ, ◌<◌, ◌≤◌, ◌++◌, List, [], length, vec_len, IsTrue, IsNone};
 ghost use Rattle.std.specs.Prelude.{IfOk, IfErr, IfSome, IfNone, OnOk, OnErr, option_map};
 ghost use Rattle.std.specs.BTreeMap.{get_by_text};
-ghost use Rattle.io_ports.specs.Shelf.{raised, HasCause, Stays, Grows, GrowsByPart};
+ghost use Rattle.io_ports.specs.Shelf.{saturating_add, faults_after, HasCause, Stays, Grows, GrowsByPart};
 
 use super::counts::Counts;
 use super::fault::Fault;
@@ -81,7 +81,7 @@ impl MemoryShelf {
         ensures answer { IsTrue result ↔ IsToFail self.old }
         ensures state { self.new ≡ record self.old {
           counts =
-              record self.old.counts { calls = raised (call_of self.old) };
+              record self.old.counts { calls = saturating_add (call_of self.old) 1 };
         } }
     {
         let is_to_fail = self.fails.contains(&self.counts.calls);
@@ -112,7 +112,7 @@ fn set_file(
 impl Shelf for MemoryShelf {
     ghost use Rattle.std.specs.Prelude.{Some};
     ghost use Rattle.io_ports.specs.MemoryShelf.{file_of, output_of, call_of, fault_count_of, failing_calls_of};
-    ghost use Rattle.io_ports.specs.MemoryShelf.{IsToFail, faults_after};
+    ghost use Rattle.io_ports.specs.MemoryShelf.{IsToFail};
 
     ghost held = { file_of };
 
@@ -137,7 +137,7 @@ impl Shelf for MemoryShelf {
         ensures files { (n : List ℕ) → file_of self.new n ≡ file_of self.old n }
         ensures output { output_of self.new ≡ output_of self.old }
         ensures fails { failing_calls_of self.new ≡ failing_calls_of self.old }
-        ensures count { call_of self.new ≡ raised (call_of self.old) }
+        ensures count { call_of self.new ≡ saturating_add (call_of self.old) 1 }
         ensures faults { fault_count_of self.new ≡ faults_after (fault_count_of self.old) result }
         ensures cause { HasCause (fault_count_of self.old) (fault_count_of self.new) result }
     {
@@ -167,7 +167,7 @@ impl Shelf for MemoryShelf {
 
         ensures output { output_of self.new ≡ output_of self.old }
         ensures fails { failing_calls_of self.new ≡ failing_calls_of self.old }
-        ensures count { call_of self.new ≡ raised (call_of self.old) }
+        ensures count { call_of self.new ≡ saturating_add (call_of self.old) 1 }
         ensures faults { fault_count_of self.new ≡ faults_after (fault_count_of self.old) result }
         ensures cause { HasCause (fault_count_of self.old) (fault_count_of self.new) result }
     {
@@ -190,7 +190,7 @@ impl Shelf for MemoryShelf {
 
         ensures files { (n : List ℕ) → file_of self.new n ≡ file_of self.old n }
         ensures fails { failing_calls_of self.new ≡ failing_calls_of self.old }
-        ensures count { call_of self.new ≡ raised (call_of self.old) }
+        ensures count { call_of self.new ≡ saturating_add (call_of self.old) 1 }
         ensures faults { fault_count_of self.new ≡ faults_after (fault_count_of self.old) result }
         ensures cause { HasCause (fault_count_of self.old) (fault_count_of self.new) result }
     {

@@ -1,7 +1,7 @@
 //! The port: files by name, and an output.
 ghost use Rattle.std.specs.Prelude.{◌≡◌, ◌≢◌, ℕ, ◌<◌, ◌≤◌, List, length, vec_len, IfOk, IfErr, IfSome, OnOk, OnErr};
 ghost use Rattle.std.specs.declared.option.Option.{Option};
-ghost use Rattle.io_ports.specs.Shelf.{raised, HasCause, Stays, Grows, GrowsByPart};
+ghost use Rattle.io_ports.specs.Shelf.{saturating_add, HasCause, Stays, Grows, GrowsByPart};
 
 use super::fault::Fault;
 use std::alloc::Global;
@@ -36,7 +36,7 @@ pub trait Shelf {
         ensures files { (n : List ℕ) → held self.new n ≡ held self.old n }
         ensures output { said self.new ≡ said self.old }
 
-        ensures count { calls self.new ≡ raised (calls self.old) }
+        ensures count { calls self.new ≡ saturating_add (calls self.old) 1 }
         ensures cause { HasCause (faults self.old) (faults self.new) result };
 
     /// Writes the file `name`: it has these bytes and no others.
@@ -51,7 +51,7 @@ pub trait Shelf {
         ensures output { Stays (said self.old) (said self.new) }
 
         ensures only { IfErr result (λ e. e ≡ Fault.Failed) }
-        ensures count { calls self.new ≡ raised (calls self.old) }
+        ensures count { calls self.new ≡ saturating_add (calls self.old) 1 }
         ensures cause { HasCause (faults self.old) (faults self.new) result };
 
     /// Appends these bytes to the output.
@@ -66,6 +66,6 @@ pub trait Shelf {
         ensures files { (n : List ℕ) → Stays (held self.old n) (held self.new n) }
 
         ensures only { IfErr result (λ e. e ≡ Fault.Failed) }
-        ensures count { calls self.new ≡ raised (calls self.old) }
+        ensures count { calls self.new ≡ saturating_add (calls self.old) 1 }
         ensures cause { HasCause (faults self.old) (faults self.new) result };
 }

@@ -1,3 +1,4 @@
+-- Setting a file of a `MemoryShelf` leaves the others.
 use Rattle.std.proofs.Common.{arith}
 use Rattle.std.proofs.lemmas.Map.Text.{text_keys}
 use Rattle.io_ports.proofs.memory.set_file.Goals as goal

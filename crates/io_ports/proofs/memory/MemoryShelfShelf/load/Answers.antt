@@ -1,3 +1,4 @@
+-- A load of a `MemoryShelf` that fails by itself: the file is missing.
 use Rattle.std.proofs.Common.{rules, inr}
 use Rattle.io_ports.proofs.memory.MemoryShelfShelf.load.Goals as goal
 

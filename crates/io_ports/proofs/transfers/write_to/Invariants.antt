@@ -1,10 +1,12 @@
+-- The loop of `write_to`: the bytes are those that the writer took, and then the rest.
 use Rattle.std.proofs.Common.{◌≡◌, ◌++◌, List, ℕ, length}
 use Rattle.std.specs.Io.KnownBytes.{Appends}
-use Rattle.io_ports.proofs.host.write_all.Given as goal
+use Rattle.io_ports.proofs.transfers.write_to.Given as goal
 
 abbrev pub invariant-loop-rest : goal.invariant-loop-rest
 invariant-loop-rest g l = (sent : List ℕ) × (l.initial.rest ≡ sent ++ l.rest)
     × Appends (g.W.Write.contents l.initial.writer) (g.W.Write.contents l.writer) sent
+    × (l.counts ≡ l.initial.counts)
 
 abbrev pub decreases-loop-rest : goal.decreases-loop-rest
 decreases-loop-rest g l = length l.rest

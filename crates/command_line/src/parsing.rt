@@ -1,0 +1,99 @@
+//! The words of a command, assigned by `clap`.
+ghost use Rattle.std.specs.Prelude.{◌≡◌, IfOk, true, map, fold, option_map, string_bytes};
+ghost use Rattle.clap.specs.Walk.{first_of, rows_of};
+ghost use Rattle.clap.specs.Matches.{found_of};
+ghost use Rattle.clap.specs.Simple.{app_of, is_simple};
+ghost use Rattle.clap.specs.Faults.{is_simple_and_free};
+ghost use Rattle.command_line.specs.Forms as spec;
+ghost use Rattle.command_line.specs.Lines.{rows};
+
+use crate::forms::Form;
+use clap::error::ErrorKind;
+use clap::{Arg, ArgMatches, Command};
+use std::alloc::{AllocError, Global};
+
+/// What `clap` finds in the words of a command, of which the first is the command's own, and none exactly where it
+/// refuses them. The one error is want of memory.
+pub fn matches_of<'a>(
+    alloc: Global,
+    form: Form,
+    words: &'a [String],
+) -> Result<Option<ArgMatches<'a>>, AllocError>
+    requires { is_simple_and_free (spec.app_of (spec.form_view form)) ≡ true }
+    ensures { IfOk result (λ found. option_map (λ m. rows_of (found_of m)) found
+        ≡ rows (spec.app_of (spec.form_view form)) (map string_bytes words.entry.now)) }
+{
+    let command = clap_command(alloc, form)?;
+    match command.try_get_matches_from(words) {
+        Ok(matches) => Ok(Some(matches)),
+        Err(error) => match error.kind() {
+            ErrorKind::OutOfMemory => Err(AllocError),
+            _ => Ok(None),
+        },
+    }
+}
+
+/// The first value that was found under this name.
+pub fn value_of<'a>(matches: &ArgMatches<'a>, name: &str) -> Option<&'a str>
+    ensures { option_map (λ value. value.now) result ≡ first_of name.now (rows_of (found_of matches.now)) }
+{
+    matches.get_str(name)
+}
+
+// The command of `clap` with this form.
+fn clap_command<'a>(alloc: Global, form: Form) -> Result<Command<'a>, AllocError>
+    ensures { IfOk result (λ command. app_of command ≡ spec.app_of (spec.form_view form)) }
+{
+    let command = with_words(alloc, Command::new(alloc, form.name), form.words)?;
+    with_options(alloc, command, form.options)
+}
+
+fn with_words<'a>(
+    alloc: Global,
+    command: Command<'a>,
+    names: &[&'a str],
+) -> Result<Command<'a>, AllocError>
+    ensures { IfOk result (λ r. app_of r ≡ fold spec.with_word (app_of command.entry)
+        (map (λ name. name.now) names.now)) }
+{
+    let mut command = command;
+    for name in names {
+        command = with_word(alloc, command, name)?;
+    }
+    Ok(command)
+}
+
+fn with_options<'a>(
+    alloc: Global,
+    command: Command<'a>,
+    names: &[&'a str],
+) -> Result<Command<'a>, AllocError>
+    ensures { IfOk result (λ r. app_of r ≡ fold spec.with_option (app_of command.entry)
+        (map (λ name. name.now) names.now)) }
+{
+    let mut command = command;
+    for name in names {
+        command = with_option(alloc, command, name)?;
+    }
+    Ok(command)
+}
+
+fn with_word<'a>(
+    alloc: Global,
+    command: Command<'a>,
+    name: &'a str,
+) -> Result<Command<'a>, AllocError>
+    ensures { IfOk result (λ r. app_of r ≡ spec.with_word (app_of command.entry) name.entry.now) }
+{
+    command.arg(Arg::new(alloc, name).required(true))
+}
+
+fn with_option<'a>(
+    alloc: Global,
+    command: Command<'a>,
+    name: &'a str,
+) -> Result<Command<'a>, AllocError>
+    ensures { IfOk result (λ r. app_of r ≡ spec.with_option (app_of command.entry) name.entry.now) }
+{
+    command.arg(Arg::new(alloc, name).long(name))
+}

@@ -1,0 +1,155 @@
+//! Command lines, and the commands that they are.
+use command_line::{Command, Words, command_of};
+use std::alloc::{AllocError, Global};
+use std::test::Fail;
+
+// A row a line: words with a blank between each two, and after `=>` the command with its words, the input words in
+// decimal digits, or `none`.
+const ROWS: &str = "\
+search p.json p.s => search p.json p.s
+search p.json => none
+search p.json p.s q.s => none
+search => none
+searc p.json p.s => none
+Search p.json p.s => none
+search same same => none
+search a ./a => search a ./a
+search - p.s => search - p.s
+search p.json - => none
+search - - => none
+search -- p.json p.s => search p.json p.s
+search -- -p -s => search -p -s
+search p.json -- -s => search p.json -s
+search -- p.json - => none
+search -p p.s => none
+search p.json --p.s => none
+search p.json p.s --in 1 => none
+search p.json p.s --help => none
+search p.json p.s -h => none
+search --help => none
+search p.json p.s --version => none
+eval p.json => eval p.json
+eval - => eval -
+eval => none
+eval p.json q.json => none
+eval help => eval help
+eval p.json --in 1,2 => eval p.json 1 2
+eval p.json --in=1,2 => eval p.json 1 2
+eval --in 1,2 p.json => eval p.json 1 2
+eval --in=1,2 p.json => eval p.json 1 2
+eval --in 1,2 -- p.json => eval p.json 1 2
+eval -- p.json --in 1 => none
+eval p.json --in => none
+eval --in p.json => none
+eval p.json --in 1 --in 1 => none
+eval p.json --in=1 --in=1 => none
+eval p.json --in 1 2 => none
+eval p.json --i 1 => none
+eval p.json -in 1 => none
+eval p.json --inputs 1 => none
+eval p.json --in 1 --help => none
+eval p.json --in 0 => eval p.json 0
+eval p.json --in 0007 => eval p.json 7
+eval p.json --in 18446744073709551615 => eval p.json 18446744073709551615
+eval p.json --in 18446744073709551616 => none
+eval p.json --in 0000000000000000000000000000000000000001 => eval p.json 1
+eval p.json --in 0xfF => eval p.json 255
+eval p.json --in 0xffffffffffffffff => eval p.json 18446744073709551615
+eval p.json --in 0x10000000000000000 => none
+eval p.json --in 0x00000000000000000000000000000000000002 => eval p.json 2
+eval p.json --in 0X10 => none
+eval p.json --in 0x => none
+eval p.json --in ff => none
+eval p.json --in +1 => none
+eval p.json --in -1 => none
+eval p.json --in=-1 => none
+eval p.json --in - => none
+eval p.json --in= => none
+eval --in  p.json => none
+eval p.json --in 1, => none
+eval p.json --in ,1 => none
+eval p.json --in 1,,2 => none
+eval p.json --in , => none
+emulate p.json p.s => emulate p.json p.s
+emulate p.json p.s --in 5,6 => emulate p.json p.s 5 6
+emulate --in 5,6 p.json p.s => emulate p.json p.s 5 6
+emulate p.json --in=5 p.s => emulate p.json p.s 5
+emulate p.json p.json => emulate p.json p.json
+emulate p.json - => emulate p.json -
+emulate p.json => none
+emulate p.json p.s q.s => none
+emulate p.json p.s --in x => none
+show p.s => show p.s
+show - => show -
+show -- --help => show --help
+show --help => none
+show -x => none
+show p.s q.s => none
+show p.s --in 1 => none
+show => none
+help => none
+-- show p.s => none";
+
+fn text_of(alloc: Global, command: &Command) -> Result<String, AllocError> {
+    match command {
+        Command::Search { program, asm } => format!(in alloc;
+            "search {} {}",
+            program.as_str(),
+            asm.as_str()
+        ),
+        Command::Eval { program, inputs } => {
+            let text = format!(in alloc; "eval {}", program.as_str())?;
+            with_words(text, inputs)
+        }
+        Command::Emulate {
+            program,
+            asm,
+            inputs,
+        } => {
+            let text = format!(in alloc; "emulate {} {}", program.as_str(), asm.as_str())?;
+            with_words(text, inputs)
+        }
+        Command::Show { asm } => format!(in alloc; "show {}", asm.as_str()),
+    }
+}
+
+fn with_words(text: String, words: &Words) -> Result<String, AllocError> {
+    let mut text = text;
+    for word in words.items() {
+        text.push_str(format!(in *text.allocator(); " {word}")?.as_str())?;
+    }
+    Ok(text)
+}
+
+fn words_of(alloc: Global, line: &str) -> Result<Vec<String>, AllocError> {
+    let mut words = Vec::new(alloc);
+    for word in line.split(' ') {
+        words.push(String::from_str(alloc, word)?)?;
+    }
+    Ok(words)
+}
+
+fn is_as_written(alloc: Global, row: &str) -> Result<bool, AllocError> {
+    let Some((line, expected)) = row.split_once(" => ") else {
+        return Ok(false);
+    };
+    let words = words_of(alloc, line)?;
+    match command_of(alloc, words.as_slice())? {
+        Some(command) => Ok(text_of(alloc, &command)?.as_str() == expected),
+        None => Ok(expected == "none"),
+    }
+}
+
+#[test]
+fn each_line_is_its_command(rt: HostRuntime) -> Result<(), Fail> {
+    for row in ROWS.lines() {
+        assert!(rt; is_as_written(rt.alloc(), row)?, "{row}");
+    }
+    Ok(())
+}
+
+#[test]
+fn no_word_is_no_command(rt: HostRuntime) -> Result<(), Fail> {
+    assert!(rt; command_of(rt.alloc(), &[])?.is_none());
+    Ok(())
+}
