@@ -1,6 +1,6 @@
 -- How operands are written. Each relation says that tokens begin with an operand, and which ones stand behind
--- it. The forms are those of Intel's syntax (Intel Software Developer's Manual, volume 2, section 3.1.1.1; GNU
--- assembler manual, "AT&T Syntax versus Intel Syntax").
+-- it. The forms are those of Intel's syntax (Intel Software Developer's Manual, volume 1, section 1.3.3, and volume 2,
+-- section 3.1.1.3; GNU assembler manual, "AT&T Syntax versus Intel Syntax").
 use Rattle.std.specs.Prelude.{◌≡◌, ℕ, Bool, true, false, List, ◌∷◌, Option, Some, None, ℤ, pos, codes}
 use Rattle.x86_instr.specs.declared.operand.Reg.{Reg}
 use Rattle.x86_instr.specs.declared.operand.Index.{Index}

@@ -1,6 +1,6 @@
--- The operands of instructions, as the tokens of a line say them. Each function gives the operand that the
--- tokens begin with, and the tokens behind it, one form tried after the other. `Grammar` says by relations what
--- they read.
+-- How the code reads; no part of a promise, but for the ranges of numbers. The operands of instructions, as the tokens
+-- of a line say them. Each function gives the operand that the tokens begin with, and the tokens behind it, one form
+-- tried after the other. `Grammar` says by relations what they read.
 use Rattle.std.specs.Prelude.{ℕ, ◌-◌, ◌^◌, ◌%◌, Bool, true, false, List, [], ◌∷◌, Option, Some, None, if◌then◌else◌}
 use Rattle.std.specs.Prelude.{option_map, ℤ, pos, neg_ℤ, nat_lt, nat_le, codes}
 use Rattle.x86_instr.specs.declared.operand.Reg.{Reg}

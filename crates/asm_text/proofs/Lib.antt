@@ -1,3 +1,4 @@
+-- The lemmas of this crate.
 pub mod Identifiers
 pub mod Walks
 pub mod Relation

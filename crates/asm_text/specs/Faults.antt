@@ -1,4 +1,4 @@
--- What the answers of the reader say.
+-- How the code reads; no part of a promise. What the answers of its parts say.
 use Rattle.std.specs.Prelude.{◌≡◌, ℕ, List, Result, Ok, Err}
 use Rattle.x86_instr.specs.declared.line.Line.{Line}
 use Rattle.x86_instr.specs.declared.listing.ListingFault.{ListingFault}

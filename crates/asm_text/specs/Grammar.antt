@@ -1,7 +1,8 @@
 -- What a line of a text may be, over its tokens: blank, one of the four header lines, or an instruction, which
 -- is its mnemonic and its operands with commas, the destination first (Intel Software Developer's Manual,
--- volume 2, section 3.1.1.1; the directives are those of the GNU assembler's manual).
+-- volume 1, section 1.3.3, and volume 2, section 3.1.1.3; the directives are those of the GNU assembler's manual).
 use Rattle.std.specs.Prelude.{◌≡◌, ◌<◌, ℕ, true, false, List, [], ◌∷◌, map, Option, Some, None, codes}
+use Rattle.base.specs.declared.limits.TheConstants.{MAX_OPERATIONS}
 use Rattle.base.specs.Identifiers.{is_identifier}
 use Rattle.x86_instr.specs.declared.operand.Reg.{Reg}
 use Rattle.x86_instr.specs.declared.operand.Mem.{Mem}
@@ -98,7 +99,7 @@ pub record NamesOwner (comment : List ℕ) (op : ℕ) : Type 0 where
   pub first : Token
   pub is : tokens comment ≡ first ∷ []
   pub spelled : numeral 10 first.text ≡ Some op
-  pub small : op < 2048
+  pub small : op < MAX_OPERATIONS
 
 -- the owner that a comment names; none where it names no operation
 abbrev pub IsOwner : List ℕ → Option ℕ → Type 0

@@ -1,6 +1,6 @@
--- The instructions, as the tokens of a line say them: the mnemonic, and then its operands with commas, the
--- destination first (`mulx` high, low, source; `shlx` and `shrx` destination, source, count). They are read from
--- the front, one form tried after the other. `Grammar` says by a relation what they read.
+-- How the code reads; no part of a promise. The instructions, as the tokens of a line say them: the mnemonic, and then
+-- its operands with commas, the destination first (`mulx` high, low, source; `shlx` and `shrx` destination, source,
+-- count). They are read from the front, one form tried after the other. `Grammar` says by a relation what they read.
 use Rattle.std.specs.Prelude.{ℕ, Bool, true, false, List, [], ◌∷◌, Option, Some, None, codes}
 use Rattle.x86_instr.specs.declared.operand.Reg.{Reg}
 use Rattle.x86_instr.specs.declared.operand.Mem.{Mem}

@@ -1,6 +1,8 @@
--- What one line of a text is, whatever stands before it, as the code reads it. `Grammar` says it by a relation.
+-- How the code reads; no part of a promise, but for the items. What one line of a text is, whatever stands before it.
+-- `Grammar` says it by a relation.
 use Rattle.std.specs.Prelude.{ℕ, Bool, false, not, ◌&&◌, List, [], ◌∷◌, Option, Some, None, if◌then◌else◌, nat_lt}
 use Rattle.std.specs.Prelude.{codes}
+use Rattle.base.specs.declared.limits.TheConstants.{MAX_OPERATIONS}
 use Rattle.base.specs.Identifiers.{is_identifier}
 use Rattle.x86_instr.specs.declared.line.Line.{Line}
 use Rattle.base.specs.Options.{◌>>=◌, pick, guard}
@@ -18,9 +20,9 @@ pub data Item : Type 0 where
   label : List ℕ → Item
   code : Line → Item
 
--- the operation that a comment names: a decimal number below 2,048, or none
+-- the operation that a comment names: a decimal number of an operation, or none
 unfoldable pub owner_in : List ℕ → Option ℕ
-owner_in comment = comment_number comment >>= (λ n. guard (nat_lt n 2048) n)
+owner_in comment = comment_number comment >>= (λ n. guard (nat_lt n MAX_OPERATIONS) n)
 
 -- an identifier that the tokens begin with, and the tokens behind it
 unfoldable pub name_at : List Token → Option (List ℕ × List Token)

@@ -1,4 +1,5 @@
--- The reading of a text line by line: how far its header has come, and the lines found so far.
+-- How the code reads; no part of a promise. The reading of a text line by line: how far its header has come, and the
+-- lines found so far.
 use Rattle.std.specs.Prelude.{ℕ, ◌++◌, List, [], ◌∷◌, Option, Some, None, if◌then◌else◌, Result}
 use Rattle.std.specs.Str.{bytes_eq}
 use Rattle.std.specs.Str.Lines.{lines}

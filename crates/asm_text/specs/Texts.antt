@@ -1,5 +1,6 @@
 -- Which texts stand for which listings, by their lines; and the first faulty line of a text.
 use Rattle.std.specs.Prelude.{◌≡◌, ◌<◌, ◌≤◌, ℕ, Bool, true, false, List, [], ◌∷◌, filter, map, length}
+use Rattle.base.specs.declared.limits.TheConstants.{MAX_LINES}
 use Rattle.x86_instr.specs.Listings.{NamedLines, ends_at_ret}
 use Rattle.asm_tokens.specs.Whole.{IsFirstFault}
 use Rattle.asm_text.specs.Items.{Item, blank, syntax_line, text_line, global, label, code}
@@ -37,7 +38,7 @@ pub record Stands (lines : List (List ℕ)) (v : NamedLines) : Type 0 where
 -- text breaks; want of memory says nothing
 abbrev pub Refuses : List (List ℕ) → TextFault → Type 0
 Refuses lines (faults.Line n) = IsFirstFault Stands lines n
-Refuses lines faults.TooLong = (v : NamedLines) × Stands lines v × (65536 < length v.lines)
-Refuses lines faults.NoReturn = (v : NamedLines) × Stands lines v × (length v.lines ≤ 65536)
+Refuses lines faults.TooLong = (v : NamedLines) × Stands lines v × (MAX_LINES < length v.lines)
+Refuses lines faults.NoReturn = (v : NamedLines) × Stands lines v × (length v.lines ≤ MAX_LINES)
     × (ends_at_ret v.lines ≡ false)
 Refuses lines faults.Memory = Unit {0}

@@ -1,4 +1,4 @@
--- What the reader's own types stand for.
+-- How the code reads; no part of a promise. What its own types stand for.
 use Rattle.asm_text.specs.Items.{Item, blank, syntax_line, text_line, global, label, code}
 use Rattle.asm_text.specs.Reading.{Stage, start, syntax, text, named, body}
 use Rattle.asm_text.specs.declared.items.Item as declared

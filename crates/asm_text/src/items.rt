@@ -9,7 +9,7 @@ use crate::instructions::instr_in;
 use crate::parts::is_end;
 use asm_operands::{after, is_spaced};
 use asm_tokens::{comment_number, next, split_comment};
-use base::is_identifier;
+use base::{MAX_OPERATIONS, is_identifier};
 use x86_instr::{Line, Owner};
 
 /// What one line of a text is, whatever stands before it.
@@ -70,7 +70,7 @@ fn owner_in(comment: &[u8]) -> Option<Owner>
     ensures { result ≡ spec.owner_in comment.now }
 {
     let number = comment_number(comment)?;
-    if number >= 2048 {
+    if number >= MAX_OPERATIONS as u64 {
         return None;
     }
     Owner::new(number as u16)

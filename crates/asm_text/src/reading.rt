@@ -10,6 +10,7 @@ ghost use Rattle.asm_text.specs.Texts.{Stands, Refuses};
 use crate::fault::TextFault;
 use crate::items::{Item, item_in};
 use asm_tokens::next_line;
+use base::MAX_LINES;
 use std::alloc::{AllocError, Global};
 use x86_instr::{Lines, Listing, ListingFault, Text};
 
@@ -34,25 +35,23 @@ struct Found {
 /// one, counted from 1: no text that stands for a listing begins with the lines up to it. Where the text ends before
 /// its fourth header line, the number is that of its lines plus 1. Otherwise `TooLong` comes exactly where there are
 /// more than 65,536 instructions, and otherwise `NoReturn` exactly where the last one is not the only `ret`. It takes
-/// time linear in the bytes, and memory for the listing alone. There is never memory for 2^32 - 1 bytes or more,
-/// since their lines could not be counted.
+/// time linear in the bytes, and memory for the listing alone. There are at most 2^32 - 2 bytes, so that the lines
+/// can be counted.
 pub fn read(alloc: Global, bytes: &[u8]) -> Result<Listing, TextFault>
+    requires { length bytes.now ≤ 2 ^ 32 - 2 }
     ensures ok { IfOk result (λ listing. Stands (lines bytes.now) listing) }
-    ensures rules { IfOk result (λ listing. (length listing.lines ≤ 65536) × (ends_at_ret listing.lines ≡ true)) }
+    ensures rules { IfOk result (λ listing. (length listing.lines ≤ MAX_LINES) × (ends_at_ret listing.lines ≡ true)) }
     ensures err { IfErr result (λ fault. Refuses (lines bytes.now) fault) }
 {
-    if bytes.len() >= u32::MAX as usize {
-        return Err(TextFault::Memory);
-    }
     read_listing(alloc, bytes)
 }
 
 /// The same by the reading line by line.
 #[tactic(auto, unfolding(crate::specs::Faults::answer))]
 fn read_listing(alloc: Global, bytes: &[u8]) -> Result<Listing, TextFault>
-    requires { length bytes.now < 2 ^ 32 - 1 }
+    requires { length bytes.now ≤ 2 ^ 32 - 2 }
     ensures answer { Told result (answer bytes.now) }
-    ensures rules { IfOk result (λ listing. (length listing.lines ≤ 65536) × (ends_at_ret listing.lines ≡ true)) }
+    ensures rules { IfOk result (λ listing. (length listing.lines ≤ MAX_LINES) × (ends_at_ret listing.lines ≡ true)) }
 {
     match read_text(alloc, bytes) {
         Ok(found) => listing(alloc, found),
@@ -62,7 +61,7 @@ fn read_listing(alloc: Global, bytes: &[u8]) -> Result<Listing, TextFault>
 
 fn listing(alloc: Global, found: Found) -> Result<Listing, TextFault>
     ensures answer { result ≡ listing_answer found.name found.lines }
-    ensures rules { IfOk result (λ listing. (length listing.lines ≤ 65536) × (ends_at_ret listing.lines ≡ true)) }
+    ensures rules { IfOk result (λ listing. (length listing.lines ≤ MAX_LINES) × (ends_at_ret listing.lines ≡ true)) }
 {
     match Listing::new(alloc, found.name, found.lines) {
         Ok(listing) => Ok(listing),
@@ -74,7 +73,7 @@ fn listing(alloc: Global, found: Found) -> Result<Listing, TextFault>
 /// The parts of the listing that a text stands for, or its first faulty line.
 #[tactic(auto, using(crate::proofs::Walks::read_step, crate::proofs::Walks::read_no_item, crate::proofs::Walks::read_no_move, crate::proofs::Walks::read_done, crate::proofs::Walks::read_short), unfolding(crate::specs::Reading::read_text))]
 fn read_text(alloc: Global, bytes: &[u8]) -> Result<Found, TextFault>
-    requires { length bytes.now < 2 ^ 32 - 1 }
+    requires { length bytes.now ≤ 2 ^ 32 - 2 }
     ensures { Gives (λ found. spec.named_lines found.name found.lines) result (spec.read_text bytes.now) }
 {
     let mut rest = bytes;

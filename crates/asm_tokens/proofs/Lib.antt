@@ -1,3 +1,4 @@
+-- The lemmas of this crate.
 pub mod FirstToken
 pub mod Walk
 pub mod FirstFault

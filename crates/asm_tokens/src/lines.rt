@@ -12,7 +12,6 @@ pub struct Cut<'a> {
 
 /// The first line of a text, without its line feed and the carriage return before that, and what follows it.
 /// None exactly where there is no line.
-
 #[tactic(auto, using(crate::proofs::Walk::lines_next, crate::proofs::Walk::lines_last))]
 pub fn next_line(text: &[u8]) -> Option<Cut<'_>>
     ensures shorter { IfSome result (λ r. length r.rest.now < length text.now) }
@@ -59,6 +58,7 @@ fn without_return(line: &[u8]) -> &[u8]
     line
 }
 
+/// How many bytes stand before the first line feed.
 fn line_len(text: &[u8]) -> usize
     ensures within { result ≤ length text.now }
     ensures value { result ≡ position_or_len is_feed text.now }
@@ -71,6 +71,7 @@ fn line_len(text: &[u8]) -> usize
     text.len()
 }
 
+/// How many bytes stand before the first `#`.
 fn code_len(line: &[u8]) -> usize
     ensures within { result ≤ length line.now }
     ensures value { result ≡ position_or_len is_hash line.now }

@@ -1,7 +1,7 @@
--- How the graph is made: of each operation those that define its operands, in the order of the operands. These
--- lists are transposed, which gives the users, and the users are transposed, which gives the needs. Transposed lists
--- are those of the transposed relation: the one with the number m has the numbers of the lists that hold m, ascending
--- and each once.
+-- How the code makes the graph; no part of a promise. Of each operation those that define its operands, in the order of
+-- the operands. These lists are transposed, which gives the users, and the users are transposed, which gives the needs.
+-- Transposed lists are those of the transposed relation: the one with the number m has the numbers of the lists that
+-- hold m, ascending and each once.
 use Rattle.std.specs.Prelude.{ℕ, ◌+◌, ◌-◌, Bool, false, ◌==◌, List, [], ◌∷◌, ◌++◌, length, map, replicate, fold}
 use Rattle.std.specs.Prelude.{option_to_list, slice_get, slice_index_or, slice_set, if◌then◌else◌}
 use Rattle.std.specs.List.{flat_map, filter, range_with_len}

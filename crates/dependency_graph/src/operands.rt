@@ -3,6 +3,7 @@ ghost use Rattle.std.specs.List.{flat_map};
 ghost use Rattle.dependency_graph.specs.Transposed as spec;
 
 use crate::transpose::Numbers;
+use base::MAX_OPERATIONS;
 use std::alloc::{AllocError, Global};
 use word_program::{Op, Operand};
 
@@ -18,7 +19,7 @@ fn push_times(list: &mut Vec<u16>, number: u16, times: usize) -> Result<(), Allo
 
 /// The operation that defines each value, by its value number.
 pub fn definers_of(alloc: Global, ops: &[Op]) -> Result<Vec<u16>, AllocError>
-    requires { length ops.now ≤ 2048 }
+    requires { length ops.now ≤ MAX_OPERATIONS }
     ensures { IfOk result (λ definers. definers.items ≡ spec.definers_of ops.entry.now) }
 {
     let mut definers = Vec::new(alloc);

@@ -2,8 +2,8 @@ ghost use Rattle.std.specs.Prelude.{◌≡◌, ◌<◌, ◌≤◌, [], length, r
 ghost use Rattle.std.specs.List.{AllByRecursion};
 ghost use Rattle.dependency_graph.specs.Transposed as spec;
 
+use base::{Items, MAX_OPERATIONS};
 use std::alloc::{AllocError, Global};
-use word_text::Items;
 
 /// Numbers of operations.
 pub type Numbers = Items<u16>;
@@ -54,7 +54,7 @@ fn empty_lists(alloc: Global, count: usize) -> Result<Vec<Numbers>, AllocError>
 /// Puts the number of each list into the lists that it names.
 fn enter_all(lists: &mut Vec<Numbers>, sources: &[Numbers]) -> Result<(), AllocError>
     requires places { AllByRecursion (AllByRecursion (λ place. place < length lists.old.items)) sources.now }
-    requires few { length sources.now ≤ 2048 }
+    requires few { length sources.now ≤ MAX_OPERATIONS }
     ensures { OnOk result (lists.new.items ≡ spec.entered_all 0 lists.old.items sources.entry.now) }
 {
     let mut number = 0;
@@ -69,7 +69,7 @@ fn enter_all(lists: &mut Vec<Numbers>, sources: &[Numbers]) -> Result<(), AllocE
 #[tactic(auto, using(crate::proofs::TransposeLemmas::is_transposed))]
 pub fn transposed(alloc: Global, lists: &[Numbers]) -> Result<Vec<Numbers>, AllocError>
     requires numbers { AllByRecursion (AllByRecursion (λ number. number < length lists.now)) lists.now }
-    requires few { length lists.now ≤ 2048 }
+    requires few { length lists.now ≤ MAX_OPERATIONS }
     ensures { IfOk result (λ holders. holders.items ≡ spec.transposed lists.entry.now) }
 {
     let mut holders = empty_lists(alloc, lists.len())?;

@@ -11,6 +11,9 @@ const HEADER: &str = ".intel_syntax noprefix\n.text\n.globl f\nf:\n";
 // The listing of these instructions and a last `ret`.
 pub fn listing_of(alloc: Global, instructions: &str) -> Result<Option<Listing>, Fail> {
     let text = format!(in alloc; "{HEADER}{instructions}\nret\n")?;
+    if text.as_bytes().len() >= u32::MAX as usize {
+        return Ok(None);
+    }
     match read(alloc, text.as_bytes()) {
         Ok(listing) => Ok(Some(listing)),
         Err(_) => Ok(None),

@@ -1,5 +1,8 @@
 -- A drawn mutation fits the plan.
-use Rattle.std.proofs.Common.{◌≡◌, ℕ, ◌+◌, ◌-◌, ◌<◌, ◌≤◌, ◌%◌, List, length, arith, sym, ap, subst}
+use Rattle.std.proofs.Common.{◌≡◌, ℕ, ◌+◌, ◌-◌, ◌<◌, ◌≤◌, ◌%◌, Bool, true, false, List, length, arith, refl, sym, ap}
+use Rattle.std.proofs.Common.{subst}
+use Rattle.std.specs.Prelude.{◌==◌, if◌then◌else◌, slice_index}
+use Rattle.word_program.specs.Accepted.{IsAccepted}
 use Rattle.word_program.specs.Program.{Source}
 use Rattle.templates.specs.Table.{count_of}
 use Rattle.op_order.specs.declared.slot.Slot.{Slot}
@@ -8,8 +11,8 @@ use Rattle.op_order.specs.Legal.{IsLegal}
 use Rattle.op_order.specs.Windows.{low_of, high_of}
 use Rattle.op_order.proofs.LegalLemmas.{legal_count, legal_op, has_template_at}
 use Rattle.op_order.proofs.WindowLaw.{low_below, high_is}
-use Rattle.mutations.specs.declared.mutation.Mutation.TheVariants.{Move, Template}
-use Rattle.mutations.specs.Mutations.{Fits, place_drawn}
+use Rattle.mutations.specs.declared.mutation.Mutation.TheVariants.{Move, Template, Swap, Load}
+use Rattle.mutations.specs.Mutations.{Fits, drawn, place_drawn}
 
 -- what is left after a division
 rest_below : (word n : ℕ) → 0 < n → word % n < n
@@ -50,3 +53,24 @@ template_fits p slots slot word number legal w e =
     let below = rest_below word (count_of p (op_at slots slot))
     (has_template_at p (op_at slots slot) (legal_op p slots legal slot w)) in
     (w, omega arith)
+
+kind_fits : (p : Source) (slots : List Slot) (a b c : Bool) (slot word : ℕ) → IsLegal p slots → slot < length slots
+    → Fits p slots (if a then Move slot (place_drawn p slots slot word)
+    else (if b then Template slot (word % count_of p (op_at slots slot)) else (if c then Swap slot else Load slot)))
+unfolding Fits
+kind_fits p slots true b c slot word legal w = move_fits p slots slot word _ legal w refl
+kind_fits p slots false true c slot word legal w = template_fits p slots slot word _ legal w refl
+kind_fits p slots false false true slot word legal w = w
+kind_fits p slots false false false slot word legal w = w
+
+-- the mutation that words draw fits a legal plan
+pub drawn_fits : (p : Source) (slots : List Slot) (words : List ℕ) → IsAccepted p → IsLegal p slots
+    → Fits p slots (drawn p slots words)
+unfolding drawn
+drawn_fits p slots words accepted legal =
+    let n = slice_index words 1 in
+    let there = slot_there p slots n legal accepted.some_ops in
+    let within : n % length slots < length slots =
+    subst (λ (k : ℕ). k < length slots) (slot_is p slots n legal) there in
+    kind_fits p slots (slice_index words 0 % 4 == 0) (slice_index words 0 % 4 == 1) (slice_index words 0 % 4 == 2)
+    (n % length slots) (slice_index words 2) legal within

@@ -7,10 +7,12 @@
 
 mod change;
 mod drawing;
+mod laws;
 mod mutation;
 mod random;
 
 pub use change::apply;
 pub use drawing::drawn;
+pub use laws::drawn_mutations_keep_plans_legal;
 pub use mutation::Mutation;
 pub use random::words;

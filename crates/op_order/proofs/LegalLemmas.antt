@@ -66,7 +66,8 @@ legal_same_ops p slots others legal same templates =
     ∙ sym (op_in slots i (omega arith)) in
     record {
       order = subst (λ (ops : List ℕ). IsPermutation (range_with_len 0 (length p.ops)) ops) (sym same) legal.order;
-      after = λ (i j : ℕ) (v : i < length others) (w : j < length others) (n : is_needed p (op_at others i) (op_at others j) ≡ true).
+      after = λ (i j : ℕ) (v : i < length others) (w : j < length others)
+          (n : is_needed p (op_at others i) (op_at others j) ≡ true).
           legal.after i j (omega arith) (omega arith)
           (subst (λ (k : ℕ). is_needed p (op_at slots i) k ≡ true) (op_same j w)
           (subst (λ (k : ℕ). is_needed p k (op_at others j) ≡ true) (op_same i v) n));
@@ -109,7 +110,8 @@ opening_legal p earlier some =
     record {
       order = subst (λ (ops : List ℕ). IsPermutation (range_with_len 0 n) ops) (sym (opening_ops 0 n))
           (IsPermutation-refl (range_with_len 0 n));
-      after = λ (i j : ℕ) (v : i < length (map opening_slot (range_with_len 0 n))) (w : j < length (map opening_slot (range_with_len 0 n)))
+      after = λ (i j : ℕ) (v : i < length (map opening_slot (range_with_len 0 n)))
+          (w : j < length (map opening_slot (range_with_len 0 n)))
           (need : is_needed p (op_at (map opening_slot (range_with_len 0 n)) i)
           (op_at (map opening_slot (range_with_len 0 n)) j) ≡ true).
           let a : op_at (map opening_slot (range_with_len 0 n)) i ≡ i =

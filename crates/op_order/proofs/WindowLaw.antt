@@ -159,7 +159,9 @@ moved_legal p slots from to legal f window =
       order = IsPermutation-trans (range_with_len 0 (length p.ops)) (ops_of slots)
           (ops_of (with_slot_moved slots from to)) legal.order
           (IsPermutation-map (λ slot. slot.op) slots (with_slot_moved slots from to) permuted);
-      after = λ (i j : ℕ) (v : i < length (with_slot_moved slots from to)) (w : j < length (with_slot_moved slots from to)) (n : is_needed p (op_at (with_slot_moved slots from to) i) (op_at (with_slot_moved slots from to) j) ≡ true).
+      after = λ (i j : ℕ) (v : i < length (with_slot_moved slots from to))
+          (w : j < length (with_slot_moved slots from to))
+          (n : is_needed p (op_at (with_slot_moved slots from to) i) (op_at (with_slot_moved slots from to) j) ≡ true).
           let a = moved_found slots from to i f t (omega arith) in
           let b = moved_found slots from to j f t (omega arith) in
           let same_a : op_at (with_slot_moved slots from to) i ≡ op_at slots a.at = ap (λ (s : Slot). s.op) a.is in

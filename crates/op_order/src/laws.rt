@@ -29,10 +29,13 @@ pub fn needed_operations_stand_before()
         → is_needed program (op_at slots at) op ≡ true → (earlier : ℕ) × (earlier < at) × (op_at slots earlier ≡ op) }
 {}
 
-/// There is at most one slot at which a listing first differs from a plan, and none where it realises the plan.
+/// There is one slot at which a listing first differs from a plan that it does not realise, at most one from any plan,
+/// and none where it realises the plan.
 pub fn listings_differ_first_at_one_slot()
     ensures once { (program : Source) (slots : List Slot) (listing : NamedLines) (n m : ℕ)
         → DiffersFirst program slots listing n → DiffersFirst program slots listing m → n ≡ m }
     ensures differs { (program : Source) (slots : List Slot) (listing : NamedLines) (n : ℕ)
         → DiffersFirst program slots listing n → Realises program slots listing → ⊥ }
+    ensures there { (program : Source) (slots : List Slot) (listing : NamedLines)
+        → (Realises program slots listing → ⊥) → (n : ℕ) × DiffersFirst program slots listing n }
 {}

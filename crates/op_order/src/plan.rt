@@ -1,4 +1,4 @@
-ghost use Rattle.std.specs.Prelude.{◌≡◌, ◌<◌, ◌≤◌, [], length, slice_set, IfOk};
+ghost use Rattle.std.specs.Prelude.{◌≡◌, ◌<◌, ◌≤◌, [], length, slice_set, Decides, IfOk};
 ghost use Rattle.op_order.specs.Legal.{IsLegal};
 ghost use Rattle.op_order.specs.Plans.{opening_of, opening_slot, with_slot_moved};
 
@@ -72,6 +72,14 @@ impl Plan {
     {
         into.slots.clear();
         into.slots.extend_from_slice(&self.slots).unwrap();
+    }
+
+    /// Whether the two plans have the same slots, whatever their room.
+    #[tactic(auto, using(crate::proofs::SameSlots::slots_decide))]
+    pub fn same(&self, other: &Plan) -> bool
+        ensures { Decides result (self.now.slots ≡ other.now.slots) }
+    {
+        self.slots.as_slice() == other.slots.as_slice()
     }
 
     /// The slots in order.

@@ -192,6 +192,7 @@ fn turn_4_of_the_seed_1_puts_a_chain_forward(rt: HostRuntime) -> Result<(), Fail
 }
 
 #[test]
+#[tactic(auto, unfolding(mutations::specs::Mutations::Fits))]
 fn a_swap_of_a_copy_leaves_the_plan(rt: HostRuntime) -> Result<(), Fail> {
     let program = program(rt.alloc(), "u64[8]", MUL4)?;
     let mut plan = Plan::opening(rt.alloc(), &program)?;
@@ -201,7 +202,10 @@ fn a_swap_of_a_copy_leaves_the_plan(rt: HostRuntime) -> Result<(), Fail> {
     plan.copy_into(&mut before);
     let mutation = drawn(&program, &plan, words(0, 0));
     apply(&program, mutation, &mut plan);
-    assert_eq!(rt; plan.slots(), before.slots());
+    assert!(rt; plan.same(&before));
+    assert!(rt; plan.slots().len() == 55);
     assert_eq!(rt; (plan.room(), before.room()), (55, 60));
+    apply(&program, Mutation::Load { slot: 54 }, &mut plan);
+    assert!(rt; !plan.same(&before));
     Ok(())
 }

@@ -1,1 +1,2 @@
+-- The definitions of this crate, in the order to read them.
 pub mod Table

@@ -139,7 +139,11 @@ const REFUSED: &[&str] = &[
     "mov rax, rbx ; 7",
 ];
 
+// What is written of the listing that a text stands for. No text here comes near the greatest length.
 fn answer(alloc: Global, text: &str) -> Result<Result<Vec<u8>, TextFault>, AllocError> {
+    if text.len() >= u32::MAX as usize {
+        return Ok(Err(TextFault::TooLong));
+    }
     match read(alloc, text.as_bytes()) {
         Ok(listing) => Ok(Ok(write(alloc, &listing)?)),
         Err(fault) => Ok(Err(fault)),
@@ -200,11 +204,18 @@ fn forms_of_the_text_are_put_in_order(rt: HostRuntime) -> Result<(), Fail> {
     Ok(())
 }
 
-const CHAIN: &str =
-    "xor rax, rax\nmov rax, [rsi]\nmov rcx, [rsi + 16]\nadcx rax, [rdx]\nadox rcx, [rdx + 16]\nmov [rdi], rax\nmov [rdi + 16], rcx\nmov rax, [rsi + 8]\nmov rcx, [rsi + 24]\nadcx rax, [rdx + 8]\nadox rcx, [rdx + 24]\nmov [rdi + 8], rax\nmov [rdi + 24], rcx\nret";
+const CHAIN: &str = "\
+    xor rax, rax\nmov rax, [rsi]\nmov rcx, [rsi + 16]\nadcx rax, [rdx]\nadox rcx, [rdx + 16]\n\
+    mov [rdi], rax\nmov [rdi + 16], rcx\nmov rax, [rsi + 8]\nmov rcx, [rsi + 24]\nadcx rax, [rdx + 8]\n\
+    adox rcx, [rdx + 24]\nmov [rdi + 8], rax\nmov [rdi + 24], rcx\nret";
 
-const CHAIN_WRITTEN: &str =
-    "    xor rax, rax\n    mov rax, qword ptr [rsi]\n    mov rcx, qword ptr [rsi + 16]\n    adcx rax, qword ptr [rdx]\n    adox rcx, qword ptr [rdx + 16]\n    mov qword ptr [rdi], rax\n    mov qword ptr [rdi + 16], rcx\n    mov rax, qword ptr [rsi + 8]\n    mov rcx, qword ptr [rsi + 24]\n    adcx rax, qword ptr [rdx + 8]\n    adox rcx, qword ptr [rdx + 24]\n    mov qword ptr [rdi + 8], rax\n    mov qword ptr [rdi + 24], rcx\n    ret\n";
+const CHAIN_WRITTEN: &str = "\
+    \x20   xor rax, rax\n    mov rax, qword ptr [rsi]\n    mov rcx, qword ptr [rsi + 16]\n\
+    \x20   adcx rax, qword ptr [rdx]\n    adox rcx, qword ptr [rdx + 16]\n    mov qword ptr [rdi], rax\n\
+    \x20   mov qword ptr [rdi + 16], rcx\n    mov rax, qword ptr [rsi + 8]\n\
+    \x20   mov rcx, qword ptr [rsi + 24]\n    adcx rax, qword ptr [rdx + 8]\n\
+    \x20   adox rcx, qword ptr [rdx + 24]\n    mov qword ptr [rdi + 8], rax\n\
+    \x20   mov qword ptr [rdi + 24], rcx\n    ret\n";
 
 // Two interleaved carry chains, without a line feed at the end.
 #[test]

@@ -1,3 +1,4 @@
+-- No row so far has the name.
 use Rattle.std.proofs.Common.{◌≡◌, drop}
 use Rattle.asm_operands.specs.Names.{named_in, rows_of}
 use Rattle.asm_operands.proofs.names.named_in.Given as goal

@@ -1,3 +1,4 @@
+-- The reading fails at the first faulty line.
 use Rattle.asm_text.proofs.Outcome.{fails_first, first_fails}
 use Rattle.asm_text.proofs.laws.fails_at_the_first_fault.Goals as goal
 

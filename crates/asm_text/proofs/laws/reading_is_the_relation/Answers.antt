@@ -1,3 +1,4 @@
+-- The reading is the relation.
 use Rattle.asm_text.proofs.Outcome.{read_stands, stands_read}
 use Rattle.asm_text.proofs.laws.reading_is_the_relation.Goals as goal
 

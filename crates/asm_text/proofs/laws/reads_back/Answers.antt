@@ -1,3 +1,4 @@
+-- What is written is read back.
 use Rattle.asm_text.proofs.RoundTrip.{reads_back, text_stands}
 use Rattle.asm_text.proofs.laws.reads_back.Goals as goal
 

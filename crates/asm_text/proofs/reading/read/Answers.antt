@@ -1,3 +1,4 @@
+-- The answer of the reading, said by the relation.
 use Rattle.asm_text.proofs.Outcome.{told_ok, told_err}
 use Rattle.asm_text.proofs.reading.read.Goals as goal
 

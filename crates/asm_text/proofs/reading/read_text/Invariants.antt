@@ -1,3 +1,4 @@
+-- What was read so far, and how many lines.
 use Rattle.std.proofs.Common.{◌≡◌, ◌+◌, ◌≤◌, length}
 use Rattle.std.specs.Str.Lines.{lines}
 use Rattle.asm_tokens.specs.Whole.{read_lines}

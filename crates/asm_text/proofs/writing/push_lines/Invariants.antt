@@ -1,3 +1,4 @@
+-- The lines that were written so far.
 use Rattle.std.proofs.Common.{◌≡◌, ◌++◌, take, string_bytes}
 use Rattle.std.specs.List.{flat_map}
 use Rattle.asm_text.specs.Assembly.{line_text}

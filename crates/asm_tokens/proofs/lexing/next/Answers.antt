@@ -1,3 +1,4 @@
+-- The lengths of the blanks and of the first token lie within the text.
 use Rattle.std.proofs.Common.{◌≡◌, length, arith}
 use Rattle.std.proofs.lemmas.Grind.{common_steps}
 use Rattle.asm_tokens.proofs.FirstToken.{no_token}

@@ -1,3 +1,4 @@
+-- The bytes so far are of a word.
 use Rattle.std.proofs.Common.{◌≡◌, ◌+◌, drop}
 use Rattle.std.specs.List.{prefix_len}
 use Rattle.asm_tokens.specs.Tokens.{is_word_byte}

@@ -1,3 +1,4 @@
+-- No byte so far begins a comment.
 use Rattle.std.proofs.Common.{◌≡◌, ◌+◌, drop}
 use Rattle.std.specs.List.{position_or_len}
 use Rattle.asm_tokens.specs.Lines.{is_hash}

@@ -1,3 +1,4 @@
+-- The length of the first line lies within the text, and what follows it is shorter.
 use Rattle.std.proofs.Common.{◌≡◌, ◌<◌, length, arith}
 use Rattle.std.proofs.lemmas.Grind.{common_steps}
 use Rattle.asm_tokens.proofs.Walk.{lines_last}

@@ -1,3 +1,4 @@
+-- The lists of a graph are those of its program.
 use Rattle.dependency_graph.proofs.OrderLemmas.{needs_at, users_at, graph_counts}
 use Rattle.dependency_graph.proofs.laws.graph_has_needs_and_users.Goals as goal
 

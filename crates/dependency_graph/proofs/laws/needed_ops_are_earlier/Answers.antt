@@ -1,3 +1,4 @@
+-- A needed operation is an earlier one.
 use Rattle.dependency_graph.proofs.OrderLemmas.{earlier}
 use Rattle.dependency_graph.proofs.laws.needed_ops_are_earlier.Goals as goal
 

@@ -1,3 +1,4 @@
+-- A mutation that fits leaves a legal plan, kind by kind.
 use Rattle.std.proofs.Common.{ap, subst}
 use Rattle.op_order.proofs.LegalLemmas.{legal_op}
 use Rattle.mutations.specs.declared.mutation.Mutation.TheVariants.{Move, Template, Swap, Load}

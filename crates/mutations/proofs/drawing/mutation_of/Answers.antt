@@ -1,3 +1,4 @@
+-- A place in the window and a template of the operation fit.
 use Rattle.mutations.proofs.FitsDrawn.{move_fits, template_fits}
 use Rattle.mutations.proofs.drawing.mutation_of.Goals as goal
 

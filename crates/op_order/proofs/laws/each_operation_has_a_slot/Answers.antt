@@ -1,3 +1,4 @@
+-- A legal plan has each operation once.
 use Rattle.op_order.proofs.LegalLemmas.{legal_count, slot_of}
 use Rattle.op_order.proofs.laws.each_operation_has_a_slot.Goals as goal
 

@@ -1,3 +1,4 @@
+-- What a slot needs stands before it.
 use Rattle.op_order.proofs.LegalLemmas.{needed_before}
 use Rattle.op_order.proofs.laws.needed_operations_stand_before.Goals as goal
 

@@ -1,3 +1,4 @@
+-- The first place of a user, from the graph of the program.
 use Rattle.std.proofs.Common.{◌+◌, ◌-◌, ℕ, sym, ap, ◌∙◌}
 use Rattle.std.specs.List.{position}
 use Rattle.dependency_graph.specs.Needs.{first_value, is_needed, reads_value_in}

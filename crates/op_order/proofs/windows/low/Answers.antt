@@ -1,3 +1,4 @@
+-- The last place of a definer, over all operands.
 use Rattle.std.proofs.Common.{◌≡◌, ◌+◌, List, length, get_or, drop, ap, sym, ◌∙◌, subst, arith}
 use Rattle.std.proofs.lemmas.Grind.{common_steps}
 use Rattle.std.proofs.lemmas.List.{drop_more, drop_all}

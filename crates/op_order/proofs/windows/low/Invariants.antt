@@ -1,3 +1,4 @@
+-- The last place of a definer of the operands so far.
 use Rattle.std.proofs.Common.{◌≡◌, drop}
 use Rattle.std.specs.Prelude.{max}
 use Rattle.op_order.proofs.Definers.{past_givers}

@@ -1,3 +1,4 @@
+-- The last place of the definer of one operand.
 use Rattle.std.proofs.Common.{sym, ◌∙◌, ap, inl, inr}
 use Rattle.word_program.specs.declared.operation.Operand.{Operand}
 use Rattle.dependency_graph.proofs.OrderLemmas.{once}

@@ -1,3 +1,4 @@
+-- A slot of the operation moves the last place forward, and another leaves it.
 use Rattle.std.proofs.Common.{sym, ◌∙◌}
 use Rattle.op_order.specs.Plans.{opening_slot}
 use Rattle.op_order.proofs.LastPlace.{past_here, past_not_here}

@@ -1,3 +1,4 @@
+-- The last place of the operation among the slots so far.
 use Rattle.std.proofs.Common.{◌≡◌, take}
 use Rattle.std.specs.Prelude.{◌==◌}
 use Rattle.op_order.specs.Windows.{past_last}

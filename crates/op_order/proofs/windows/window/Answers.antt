@@ -1,3 +1,4 @@
+-- The bounds that the two ends of a window ask for.
 use Rattle.std.proofs.Common.{◌<◌, ◌≤◌, List, length, ap, sym, ◌∙◌, subst, arith}
 use Rattle.std.specs.List.{All}
 use Rattle.op_order.specs.declared.slot.Slot.{Slot}

@@ -1,3 +1,4 @@
+-- The slots that were put are those of the opening plan, which is legal.
 use Rattle.std.proofs.Common.{◌≡◌, map, zero-add, ap, length, arith, ◌∙◌, sym, subst}
 use Rattle.std.proofs.lemmas.Grind.{common_steps}
 use Rattle.std.proofs.lemmas.List.FromFn.{map-range_with_len_more, length-map-range_with_len}
