@@ -5,8 +5,8 @@ use Rattle.std.proofs.Common.{◌≡◌, ◌≢◌, ℕ, zero, suc, ◌+◌, ◌
 use Rattle.std.proofs.Common.{◌<◌, None, IfSome, refl, sym, ◌∙◌, ap, subst, arith, inl, inr, ◌⊎◌}
 use Rattle.std.specs.List.{AllByRecursion}
 use Rattle.io_ports.specs.Shelf.{Rose, Stays, Grows, GrowsByPart}
-use Rattle.command_frame.specs.declared.form.Form.{Form}
-use Rattle.command_frame.specs.declared.form.Form.TheVariants as forms
+use Rattle.command_frame.specs.declared.format.Format.{Format}
+use Rattle.command_frame.specs.declared.format.Format.TheVariants as formats
 use Rattle.command_frame.specs.declared.status.Status.{Status}
 use Rattle.command_frame.specs.declared.status.Status.TheVariants as statuses
 use Rattle.command_frame.specs.Change.{View, Change, HasCalls, IsUntouched}
@@ -177,7 +177,7 @@ module _ (load : Load) (content : Content) (a b c : View) (loads : Loads load co
   read_before [] (x ∷ xs) read = absurd read
   read_before (o ∷ os) [] read = absurd read
   read_before (o ∷ os) (x ∷ xs) read = (
-    held_before (λ told. IsRead o.form told x) o.name read.0,
+    held_before (λ told. IsRead o.format told x) o.name read.0,
     read_before os xs read.1,
   )
 
@@ -185,8 +185,8 @@ module _ (load : Load) (content : Content) (a b c : View) (loads : Loads load co
       → FailsToLoad other (between a c) status
   cause_before other (statuses.ReadFault name) cause = (cause.0, rose_before cause.1)
   cause_before other (statuses.TooLong name most) cause =
-      (cause.0, cause.1, held_before (λ told. IfSome told (λ bytes. limit_of other.form < length bytes)) other.name cause.2)
-  cause_before other status cause = held_before (λ told. RefusesFile status other.form told) other.name cause
+      (cause.0, cause.1, held_before (λ told. IfSome told (λ bytes. limit_of other.format < length bytes)) other.name cause.2)
+  cause_before other status cause = held_before (λ told. RefusesFile status other.format told) other.name cause
 
   stops_before : (made : ℕ) (stores : List (List ℕ)) (output : Output) (name : List ℕ)
       → StopsAtStore made stores output (between b c) name ⊎ StopsAtOutput made stores output (between b c) name

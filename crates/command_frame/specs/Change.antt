@@ -1,10 +1,7 @@
 -- What a shelf tells and counts before a command and after it. The words are this project's own, over those of
 -- the port `Shelf`: what is not told is None, and no promise speaks of it.
-use Rattle.std.specs.Prelude.{◌≡◌, ℕ, zero, suc, ◌+◌, ◌-◌, ◌^◌, min, List, Option}
-
--- the count after k more; it stays at the last number of 64 bits
-abbrev pub saturating_add : ℕ → ℕ → ℕ
-saturating_add n k = min (n + k) (2 ^ 64 - 1)
+use Rattle.std.specs.Prelude.{◌≡◌, ℕ, zero, suc, List, Option}
+use Rattle.io_ports.specs.Shelf.{saturating_add}
 
 -- what a shelf tells of each file and of all that was said, and its counts of calls and of faults
 pub record View : Type 0 where

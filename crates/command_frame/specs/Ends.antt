@@ -17,7 +17,7 @@ abbrev pub AreRead : List Load → (List ℕ → Option (List ℕ)) → List Con
 AreRead [] held [] = Unit {0}
 AreRead [] held (content ∷ contents) = ⊥
 AreRead (load ∷ loads) held [] = ⊥
-AreRead (load ∷ loads) held (content ∷ contents) = IsRead load.form (held load.name) content
+AreRead (load ∷ loads) held (content ∷ contents) = IsRead load.format (held load.name) content
     × AreRead loads held contents
 
 -- a load gave nothing, for this cause, and those before it were read

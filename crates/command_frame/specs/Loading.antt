@@ -7,14 +7,14 @@ use Rattle.command_frame.specs.Files.{Load, Content, IsRead, FailsToLoad, limit_
 -- the file has these bytes, where it is told, and they are not too many
 pub record Fits (load : Load) (bytes : List ℕ) (change : Change) : Type 0 where
   pub told : IfSome (change.before.held load.name) (λ b. bytes ≡ b)
-  pub within : length bytes ≤ limit_of load.form
+  pub within : length bytes ≤ limit_of load.format
   pub untouched : IsUntouched change
   pub calls : HasCalls change 1
   pub later : change.before.faults ≤ change.after.faults
 
 -- this was read from the file
 pub record Loads (load : Load) (content : Content) (change : Change) : Type 0 where
-  pub read : IsRead load.form (change.before.held load.name) content
+  pub read : IsRead load.format (change.before.held load.name) content
   pub untouched : IsUntouched change
   pub calls : HasCalls change 1
   pub later : change.before.faults ≤ change.after.faults

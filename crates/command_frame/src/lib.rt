@@ -5,12 +5,12 @@
 //! and why it refuses them. The loads and the writes that commands share are here.
 #![tactic(auto)]
 
-mod form;
+mod format;
 mod loading;
 mod status;
 mod writing;
 
-pub use form::{ASM_LIMIT, Form, PROGRAM_LIMIT};
+pub use format::{ASM_LIMIT, Format, PROGRAM_LIMIT};
 pub use loading::{load_listing, load_program};
 pub use status::{Status, exit_of, line_of};
 pub use writing::{output_name, say_text, store_and_say};

@@ -3,7 +3,7 @@ ghost use Rattle.command_frame.specs.Change.{change_of};
 ghost use Rattle.command_frame.specs.Files as files;
 ghost use Rattle.command_frame.specs.Loading.{Fails, Fits, Loads};
 
-use crate::form::{ASM_LIMIT, Form, PROGRAM_LIMIT, limit_of};
+use crate::format::{ASM_LIMIT, Format, PROGRAM_LIMIT, limit_of};
 use crate::status::Status;
 use asm_text::TextFault;
 use base::Text;
@@ -15,12 +15,12 @@ use x86_instr::{Listing, ListingFault};
 
 /// The program in the file of this name, or the status of the command that wants it.
 pub fn load_program<S: Shelf>(alloc: Global, name: Text, shelf: &mut S) -> Result<Program, Status>
-    ensures program { IfOk result (λ p. Loads (record { name = name; form = Form.Program }) (files.Program p)
+    ensures program { IfOk result (λ p. Loads (record { name = name; format = Format.Program }) (files.Program p)
         (change_of S.held S.said S.calls S.faults shelf.old shelf.new)) }
-    ensures refused { IfErr result (λ status. Fails (record { name = name; form = Form.Program })
+    ensures refused { IfErr result (λ status. Fails (record { name = name; format = Format.Program })
         (change_of S.held S.said S.calls S.faults shelf.old shelf.new) status) }
 {
-    match bytes_of(alloc, name, Form::Program, shelf) {
+    match bytes_of(alloc, name, Format::Program, shelf) {
         Ok(bytes) => read_program(alloc, bytes.as_slice()),
         Err(status) => Err(status),
     }
@@ -28,12 +28,12 @@ pub fn load_program<S: Shelf>(alloc: Global, name: Text, shelf: &mut S) -> Resul
 
 /// The listing whose text is in the file of this name, or the status of the command that wants it.
 pub fn load_listing<S: Shelf>(alloc: Global, name: Text, shelf: &mut S) -> Result<Listing, Status>
-    ensures listing { IfOk result (λ l. Loads (record { name = name; form = Form.Listing }) (files.Listing l)
+    ensures listing { IfOk result (λ l. Loads (record { name = name; format = Format.Listing }) (files.Listing l)
         (change_of S.held S.said S.calls S.faults shelf.old shelf.new)) }
-    ensures refused { IfErr result (λ status. Fails (record { name = name; form = Form.Listing })
+    ensures refused { IfErr result (λ status. Fails (record { name = name; format = Format.Listing })
         (change_of S.held S.said S.calls S.faults shelf.old shelf.new) status) }
 {
-    match bytes_of(alloc, name, Form::Listing, shelf) {
+    match bytes_of(alloc, name, Format::Listing, shelf) {
         Ok(bytes) => read_listing(alloc, bytes.as_slice()),
         Err(status) => Err(status),
     }
@@ -43,18 +43,18 @@ pub fn load_listing<S: Shelf>(alloc: Global, name: Text, shelf: &mut S) -> Resul
 fn bytes_of<S: Shelf>(
     alloc: Global,
     name: Text,
-    form: Form,
+    format: Format,
     shelf: &mut S,
 ) -> Result<Vec<u8>, Status>
-    ensures content { IfOk result (λ bytes. Fits (record { name = name; form = form }) bytes.items
+    ensures content { IfOk result (λ bytes. Fits (record { name = name; format = format }) bytes.items
         (change_of S.held S.said S.calls S.faults shelf.old shelf.new)) }
-    ensures refused { IfErr result (λ status. Fails (record { name = name; form = form })
+    ensures refused { IfErr result (λ status. Fails (record { name = name; format = format })
         (change_of S.held S.said S.calls S.faults shelf.old shelf.new) status) }
 {
-    match shelf.load(alloc, name.as_str(), limit_of(form)) {
+    match shelf.load(alloc, name.as_str(), limit_of(format)) {
         Ok(bytes) => Ok(bytes),
         Err(Fault::Failed) => Err(Status::ReadFault(name)),
-        Err(Fault::TooLong) => Err(Status::TooLong(name, limit_of(form))),
+        Err(Fault::TooLong) => Err(Status::TooLong(name, limit_of(format))),
         Err(Fault::Memory) => Err(Status::OutOfMemory),
     }
 }
@@ -62,8 +62,8 @@ fn bytes_of<S: Shelf>(
 /// The program that the bytes are, or the status of the command that wants it.
 fn read_program(alloc: Global, bytes: &[u8]) -> Result<Program, Status>
     requires { length bytes.now ≤ PROGRAM_LIMIT }
-    ensures program { IfOk result (λ p. files.IsRead Form.Program (Some bytes.now) (files.Program p)) }
-    ensures refused { IfErr result (λ status. files.RefusesFile status Form.Program (Some bytes.now)) }
+    ensures program { IfOk result (λ p. files.IsRead Format.Program (Some bytes.now) (files.Program p)) }
+    ensures refused { IfErr result (λ status. files.RefusesFile status Format.Program (Some bytes.now)) }
 {
     let program = match fiat_json::read_program(alloc, bytes) {
         Ok(program) => program,
@@ -78,8 +78,8 @@ fn read_program(alloc: Global, bytes: &[u8]) -> Result<Program, Status>
 /// The listing whose text the bytes are, or the status of the command that wants it.
 fn read_listing(alloc: Global, bytes: &[u8]) -> Result<Listing, Status>
     requires { length bytes.now ≤ ASM_LIMIT }
-    ensures listing { IfOk result (λ l. files.IsRead Form.Listing (Some bytes.now) (files.Listing l)) }
-    ensures refused { IfErr result (λ status. files.RefusesFile status Form.Listing (Some bytes.now)) }
+    ensures listing { IfOk result (λ l. files.IsRead Format.Listing (Some bytes.now) (files.Listing l)) }
+    ensures refused { IfErr result (λ status. files.RefusesFile status Format.Listing (Some bytes.now)) }
 {
     match asm_text::read(alloc, bytes) {
         Ok(listing) => Ok(listing),

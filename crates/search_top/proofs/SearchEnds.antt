@@ -8,6 +8,7 @@ use Rattle.command_frame.specs.Writes.{Output, Writes, AreStored}
 use Rattle.command_frame.specs.Ends.{AreRead, StopsAtLoad, StopsAtWork}
 use Rattle.command_line.specs.declared.command.Command.TheVariants.{Search}
 use Rattle.io_ports.specs.Shelf.{Grows}
+use Rattle.x86_instr.specs.declared.listing.ListingFault.{ListingFault}
 use Rattle.search_top.specs.Commands.{EndsAs, program_in}
 use Rattle.search_top.specs.Search.{Files, SearchMeans, SearchRefuses, Succeeds, OnSuccess, IsOfSearch}
 
@@ -37,9 +38,9 @@ success files change status ends = tt
 never_at : (name : List ℕ) (change : Change) (status : Status) (place : ℕ) (load : Load)
     → slice_get (program_in name ∷ []) place ≡ Some load → FailsToLoad load change status
     → (FailsToLoad (program_in name) change status → ⊥) → ⊥
-never_at name change status zero load stands cause no =
-    let same : load ≡ program_in name = cc in no (subst (λ l. FailsToLoad l change status) same cause)
-never_at name change status (suc place) load stands cause no = cc
+never_at name change status zero load stands cause refuted =
+    let same : load ≡ program_in name = cc in refuted (subst (λ l. FailsToLoad l change status) same cause)
+never_at name change status (suc place) load stands cause refuted = cc
 
 never : (name : List ℕ) (change : Change) (status : Status) → (FailsToLoad (program_in name) change status → ⊥)
     → ((contents : List Content) → SearchRefuses contents status → ⊥)
@@ -49,12 +50,39 @@ never name change status no_load no_work (inl s) = never_at name change status s
 never name change status no_load no_work (inr s) = no_work s.contents s.refuses
 
 -- the work refuses with a program fault alone
-work_text : (line : ℕ) (contents : List Content) → SearchRefuses contents (statuses.Text line) → ⊥
-work_text line (Program p ∷ []) h = h
-work_text line contents h = h
+abbrev NoWork : Status → Type 0
+NoWork status = (contents : List Content) → SearchRefuses contents status → ⊥
+
+no_text : (line : ℕ) → NoWork (statuses.Text line)
+no_text line (Program p ∷ []) h = h
+no_text line contents h = h
+
+no_listing : (fault : ListingFault) → NoWork (statuses.Listing fault)
+no_listing fault (Program p ∷ []) h = h
+no_listing fault contents h = h
+
+no_stuck : (line : ℕ) → NoWork (statuses.Stuck line)
+no_stuck line (Program p ∷ []) h = h
+no_stuck line contents h = h
+
+no_inputs : (given wanted : ℕ) → NoWork (statuses.Inputs given wanted)
+no_inputs given wanted (Program p ∷ []) h = h
+no_inputs given wanted contents h = h
+
+no_out_of_bounds : (word : ℕ) → NoWork (statuses.OutOfBounds word)
+no_out_of_bounds word (Program p ∷ []) h = h
+no_out_of_bounds word contents h = h
 
 pub of_search : (name asm : List ℕ) (change : Change) (status : Status) → EndsAs (Search name asm) change status
     → IsOfSearch status
 of_search name asm change (statuses.Text line) ends =
-    never name change (statuses.Text line) (λ h. h) (work_text line) ends.answer
-of_search name asm change status ends = ?
+    never name change (statuses.Text line) (λ h. h) (no_text line) ends.answer
+of_search name asm change (statuses.Listing fault) ends =
+    never name change (statuses.Listing fault) (λ h. h) (no_listing fault) ends.answer
+of_search name asm change (statuses.Stuck line) ends =
+    never name change (statuses.Stuck line) (λ h. h) (no_stuck line) ends.answer
+of_search name asm change (statuses.Inputs given wanted) ends =
+    never name change (statuses.Inputs given wanted) (λ h. h) (no_inputs given wanted) ends.answer
+of_search name asm change (statuses.OutOfBounds word) ends =
+    never name change (statuses.OutOfBounds word) (λ h. h) (no_out_of_bounds word) ends.answer
+of_search name asm change status ends = tt

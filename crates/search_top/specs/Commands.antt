@@ -2,7 +2,7 @@
 -- command is one row of each.
 use Rattle.std.specs.Prelude.{ℕ, List, [], ◌∷◌, Option, Some, None}
 use Rattle.base.specs.Options.{◌>>=◌}
-use Rattle.command_frame.specs.declared.form.Form.TheVariants as forms
+use Rattle.command_frame.specs.declared.format.Format.TheVariants as formats
 use Rattle.command_frame.specs.declared.status.Status.{Status}
 use Rattle.command_frame.specs.Change.{Change}
 use Rattle.command_frame.specs.Files.{Load, Content}
@@ -10,7 +10,7 @@ use Rattle.command_frame.specs.Writes.{Output}
 use Rattle.command_frame.specs.Ends.{Calls, Ends}
 use Rattle.command_line.specs.declared.command.Command.{Command}
 use Rattle.command_line.specs.declared.command.Command.TheVariants as commands
-use Rattle.command_line.specs.Commands.{command_of}
+use Rattle.command_line.specs.Lines.{command_of}
 use Rattle.search_top.specs.Search.{Files, SearchMeans, SearchRefuses}
 use Rattle.search_top.specs.Eval.{EvalMeans, EvalRefuses}
 use Rattle.search_top.specs.Emulate.{EmulateMeans, EmulateRefuses}
@@ -18,10 +18,10 @@ use Rattle.search_top.specs.Show.{ShowMeans, ShowRefuses}
 
 -- a file that is read as a program, and one that is read as a listing
 abbrev pub program_in : List ℕ → Load
-program_in name = record { name = name; form = forms.Program }
+program_in name = record { name = name; format = formats.Program }
 
 abbrev pub listing_in : List ℕ → Load
-listing_in name = record { name = name; form = forms.Listing }
+listing_in name = record { name = name; format = formats.Listing }
 
 -- the files that are loaded, and those that are stored; each command says one word last
 abbrev pub calls_of : Command → Calls

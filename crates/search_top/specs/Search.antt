@@ -10,7 +10,7 @@ use Rattle.x86_instr.specs.Listings.{NamedLines}
 use Rattle.x86_meaning.specs.Correct.{IsCorrect}
 use Rattle.asm_text.specs.Assembly.{text_of}
 use Rattle.asm_text.specs.Texts.{Stands}
-use Rattle.command_frame.specs.declared.form.Form.TheVariants as forms
+use Rattle.command_frame.specs.declared.format.Format.TheVariants as formats
 use Rattle.command_frame.specs.declared.status.Status.{Status}
 use Rattle.command_frame.specs.declared.status.Status.TheVariants as statuses
 use Rattle.command_frame.specs.Change.{Change}
@@ -57,7 +57,7 @@ pub record Files : Type 0 where
 -- listing is correct, and exactly its cost was said.
 pub record Succeeds (files : Files) (change : Change) : Type 0 where
   pub program : Source
-  pub read : IsRead forms.Program (change.before.held files.program) (Program program)
+  pub read : IsRead formats.Program (change.before.held files.program) (Program program)
   pub copies : IsSome (copy_form program)
   pub written : IfSome (change.after.held files.asm) (λ bytes. bytes ≡ text_of (plain_listing program))
   pub reads_back : ReadsBack (plain_listing program)

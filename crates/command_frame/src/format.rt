@@ -9,7 +9,7 @@ pub const ASM_LIMIT: u64 = 67_108_864;
 
 /// What a file is read as.
 #[derive(Clone, Copy)]
-pub enum Form {
+pub enum Format {
     /// A program in JSON.
     Program,
     /// The assembly text of a listing.
@@ -17,11 +17,11 @@ pub enum Form {
 }
 
 /// How many bytes a file may have that is read as this.
-pub fn limit_of(form: Form) -> u64
-    ensures { result ≡ files.limit_of form }
+pub fn limit_of(format: Format) -> u64
+    ensures { result ≡ files.limit_of format }
 {
-    match form {
-        Form::Program => PROGRAM_LIMIT,
-        Form::Listing => ASM_LIMIT,
+    match format {
+        Format::Program => PROGRAM_LIMIT,
+        Format::Listing => ASM_LIMIT,
     }
 }
