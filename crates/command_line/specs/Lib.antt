@@ -1,3 +1,4 @@
-pub mod Forms
+pub mod Table
 pub mod Inputs
+pub mod Laws
 pub mod Lines

@@ -7,10 +7,10 @@ use Rattle.clap.specs.Walk.{Row, first_of}
 use Rattle.clap.specs.Kinds.{Kinds}
 use Rattle.clap.specs.Faults.{fault_of}
 use Rattle.clap.specs.Simple.{App, matches_of}
-use Rattle.command_line.specs.Forms.{app_of, form_of, kind_named}
+use Rattle.command_line.specs.Table.{app_of, syntax_of, command_named}
 use Rattle.command_line.specs.Inputs.{inputs_or_none}
-use Rattle.command_line.specs.declared.forms.Kind.{Kind}
-use Rattle.command_line.specs.declared.forms.Kind.TheVariants as kind
+use Rattle.command_line.specs.declared.table.CommandName.{CommandName}
+use Rattle.command_line.specs.declared.table.CommandName.TheVariants as names
 use Rattle.command_line.specs.declared.command.Command.{Command}
 use Rattle.command_line.specs.declared.command.Command.TheVariants.{Search, Eval, Emulate, Show}
 
@@ -28,21 +28,21 @@ abbrev pub are_file_names : List ℕ → List ℕ → Bool
 are_file_names program asm = not (bytes_eq program asm) && not (bytes_eq asm (codes "-"))
 
 -- the command that the found words make
-abbrev pub made_of : Kind → List Row → Option Command
-made_of kind.Search found = do
+abbrev pub made_of : CommandName → List Row → Option Command
+made_of names.Search found = do
   program ← first_of (codes "PROGRAM") found
   asm ← first_of (codes "ASM") found
   guard (are_file_names program asm) (Search program asm)
-made_of kind.Eval found = do
+made_of names.Eval found = do
   program ← first_of (codes "PROGRAM") found
   inputs ← inputs_or_none (first_of (codes "in") found)
   Some (Eval program inputs)
-made_of kind.Emulate found = do
+made_of names.Emulate found = do
   program ← first_of (codes "PROGRAM") found
   asm ← first_of (codes "ASM") found
   inputs ← inputs_or_none (first_of (codes "in") found)
   Some (Emulate program asm inputs)
-made_of kind.Show found = do
+made_of names.Show found = do
   asm ← first_of (codes "ASM") found
   Some (Show asm)
 
@@ -50,6 +50,6 @@ made_of kind.Show found = do
 abbrev pub command_of : List (List ℕ) → Option Command
 command_of [] = None
 command_of (first ∷ rest) = do
-  kind ← kind_named first
-  found ← rows (app_of (form_of kind)) (first ∷ rest)
-  made_of kind found
+  command ← command_named first
+  found ← rows (app_of (syntax_of command)) (first ∷ rest)
+  made_of command found

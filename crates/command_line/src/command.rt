@@ -3,11 +3,11 @@ ghost use Rattle.std.specs.Prelude.{◌≡◌, IfOk, map, string_bytes};
 ghost use Rattle.clap.specs.Walk.{rows_of};
 ghost use Rattle.clap.specs.Matches.{found_of};
 ghost use Rattle.command_line.specs.Lines as spec;
-ghost use Rattle.command_line.specs.declared.forms.Kind.TheVariants as kind;
+ghost use Rattle.command_line.specs.declared.table.CommandName.TheVariants as names;
 
-use crate::forms::{Kind, form_of, kind_named};
 use crate::inputs::inputs_or_none;
 use crate::parsing::{matches_of, value_of};
+use crate::table::{CommandName, command_named, syntax_of};
 use base::{Items, Text};
 use clap::ArgMatches;
 use std::alloc::{AllocError, Global};
@@ -53,32 +53,32 @@ pub fn command_of(alloc: Global, words: &[String]) -> Result<Option<Command>, Al
     let Some(first) = words.first() else {
         return Ok(None);
     };
-    let Some(kind) = kind_named(first.as_str()) else {
+    let Some(name) = command_named(first.as_str()) else {
         return Ok(None);
     };
-    match matches_of(alloc, form_of(kind), words)? {
-        Some(matches) => made_of(alloc, kind, &matches),
+    match matches_of(alloc, syntax_of(name), words)? {
+        Some(matches) => made_of(alloc, name, &matches),
         None => Ok(None),
     }
 }
 
 fn made_of(
     alloc: Global,
-    kind: Kind,
+    name: CommandName,
     matches: &ArgMatches<'_>,
 ) -> Result<Option<Command>, AllocError>
-    ensures { IfOk result (λ made. made ≡ spec.made_of kind (rows_of (found_of matches.now))) }
+    ensures { IfOk result (λ made. made ≡ spec.made_of name (rows_of (found_of matches.now))) }
 {
-    match kind {
-        Kind::Search => search_of(alloc, matches),
-        Kind::Eval => eval_of(alloc, matches),
-        Kind::Emulate => emulate_of(alloc, matches),
-        Kind::Show => show_of(alloc, matches),
+    match name {
+        CommandName::Search => search_of(alloc, matches),
+        CommandName::Eval => eval_of(alloc, matches),
+        CommandName::Emulate => emulate_of(alloc, matches),
+        CommandName::Show => show_of(alloc, matches),
     }
 }
 
 fn search_of(alloc: Global, matches: &ArgMatches<'_>) -> Result<Option<Command>, AllocError>
-    ensures { IfOk result (λ made. made ≡ spec.made_of kind.Search (rows_of (found_of matches.now))) }
+    ensures { IfOk result (λ made. made ≡ spec.made_of names.Search (rows_of (found_of matches.now))) }
 {
     let Some(program) = value_of(matches, "PROGRAM") else {
         return Ok(None);
@@ -95,7 +95,7 @@ fn search_of(alloc: Global, matches: &ArgMatches<'_>) -> Result<Option<Command>,
 }
 
 fn eval_of(alloc: Global, matches: &ArgMatches<'_>) -> Result<Option<Command>, AllocError>
-    ensures { IfOk result (λ made. made ≡ spec.made_of kind.Eval (rows_of (found_of matches.now))) }
+    ensures { IfOk result (λ made. made ≡ spec.made_of names.Eval (rows_of (found_of matches.now))) }
 {
     let Some(program) = value_of(matches, "PROGRAM") else {
         return Ok(None);
@@ -108,7 +108,7 @@ fn eval_of(alloc: Global, matches: &ArgMatches<'_>) -> Result<Option<Command>, A
 }
 
 fn emulate_of(alloc: Global, matches: &ArgMatches<'_>) -> Result<Option<Command>, AllocError>
-    ensures { IfOk result (λ made. made ≡ spec.made_of kind.Emulate (rows_of (found_of matches.now))) }
+    ensures { IfOk result (λ made. made ≡ spec.made_of names.Emulate (rows_of (found_of matches.now))) }
 {
     let Some(program) = value_of(matches, "PROGRAM") else {
         return Ok(None);
@@ -129,7 +129,7 @@ fn emulate_of(alloc: Global, matches: &ArgMatches<'_>) -> Result<Option<Command>
 }
 
 fn show_of(alloc: Global, matches: &ArgMatches<'_>) -> Result<Option<Command>, AllocError>
-    ensures { IfOk result (λ made. made ≡ spec.made_of kind.Show (rows_of (found_of matches.now))) }
+    ensures { IfOk result (λ made. made ≡ spec.made_of names.Show (rows_of (found_of matches.now))) }
 {
     let Some(asm) = value_of(matches, "ASM") else {
         return Ok(None);

@@ -4,10 +4,10 @@ ghost use Rattle.clap.specs.Walk.{first_of, rows_of};
 ghost use Rattle.clap.specs.Matches.{found_of};
 ghost use Rattle.clap.specs.Simple.{app_of, is_simple};
 ghost use Rattle.clap.specs.Faults.{is_simple_and_free};
-ghost use Rattle.command_line.specs.Forms as spec;
+ghost use Rattle.command_line.specs.Table as spec;
 ghost use Rattle.command_line.specs.Lines.{rows};
 
-use crate::forms::Form;
+use crate::table::Syntax;
 use clap::error::ErrorKind;
 use clap::{Arg, ArgMatches, Command};
 use std::alloc::{AllocError, Global};
@@ -16,14 +16,14 @@ use std::alloc::{AllocError, Global};
 /// refuses them. The one error is want of memory.
 pub fn matches_of<'a>(
     alloc: Global,
-    form: Form,
+    line: Syntax,
     words: &'a [String],
 ) -> Result<Option<ArgMatches<'a>>, AllocError>
-    requires { is_simple_and_free (spec.app_of (spec.form_view form)) ≡ true }
+    requires { is_simple_and_free (spec.app_of (spec.syntax_view line)) ≡ true }
     ensures { IfOk result (λ found. option_map (λ m. rows_of (found_of m)) found
-        ≡ rows (spec.app_of (spec.form_view form)) (map string_bytes words.entry.now)) }
+        ≡ rows (spec.app_of (spec.syntax_view line)) (map string_bytes words.entry.now)) }
 {
-    let command = clap_command(alloc, form)?;
+    let command = clap_command(alloc, line)?;
     match command.try_get_matches_from(words) {
         Ok(matches) => Ok(Some(matches)),
         Err(error) => match error.kind() {
@@ -40,12 +40,12 @@ pub fn value_of<'a>(matches: &ArgMatches<'a>, name: &str) -> Option<&'a str>
     matches.get_str(name)
 }
 
-// The command of `clap` with this form.
-fn clap_command<'a>(alloc: Global, form: Form) -> Result<Command<'a>, AllocError>
-    ensures { IfOk result (λ command. app_of command ≡ spec.app_of (spec.form_view form)) }
+// The command of `clap` that the line makes.
+fn clap_command<'a>(alloc: Global, line: Syntax) -> Result<Command<'a>, AllocError>
+    ensures { IfOk result (λ command. app_of command ≡ spec.app_of (spec.syntax_view line)) }
 {
-    let command = with_words(alloc, Command::new(alloc, form.name), form.words)?;
-    with_options(alloc, command, form.options)
+    let command = with_words(alloc, Command::new(alloc, line.name), line.words)?;
+    with_options(alloc, command, line.options)
 }
 
 fn with_words<'a>(

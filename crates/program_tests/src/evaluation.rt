@@ -14,8 +14,10 @@ const MULX1: &str = "mulx1|out1 u64[2]|arg1 u64;arg2 u64|mulx out1[0],out1[1] ar
 
 const AND2: &str = "and2|out1 u64[1]|arg1 u64[1];arg2 u64[1]|& out1[0] arg1[0],arg2[0]";
 
-const CHAIN2: &str =
-    "chain2|out1 u64[4]|arg1 u64[4];arg2 u64[4]|addcarryx out1[0],x 0,arg1[0],arg2[0];addcarryx out1[2],y 0,arg1[2],arg2[2];addcarryx out1[1],_ x,arg1[1],arg2[1];addcarryx out1[3],_ y,arg1[3],arg2[3]";
+const CHAIN2: &str = "\
+chain2|out1 u64[4]|arg1 u64[4];arg2 u64[4]|\
+addcarryx out1[0],x 0,arg1[0],arg2[0];addcarryx out1[2],y 0,arg1[2],arg2[2];\
+addcarryx out1[1],_ x,arg1[1],arg2[1];addcarryx out1[3],_ y,arg1[3],arg2[3]";
 
 // Programs, input words and output words.
 const EVALUATED: &[(&str, &[u64], &[u64])] = &[
@@ -163,17 +165,34 @@ fn copies_are_told(rt: HostRuntime) -> Result<(), Fail> {
     Ok(())
 }
 
+// Programs, and whether their outputs may overlap their inputs.
+const OVERLAPS: &[(&str, bool)] = &[
+    ("f~any|o u64[1]|a u64|= o[0] a", true),
+    ("f~none|o u64[1]|a u64|= o[0] a", false),
+    ("f|o u64[1]|a u64|= o[0] a", false),
+];
+
+#[test]
+fn overlap_is_told(rt: HostRuntime) -> Result<(), Fail> {
+    for (row, told) in OVERLAPS {
+        assert_eq!(rt; program(rt.alloc(), row)?.overlap(), *told, "{row}");
+    }
+    Ok(())
+}
+
 const CHAIN: &str =
     "f|o u64[2];p u64[1]|a u64[2] - 5/6;b u64;c u1;d u64|addcarryx o[0],x c,b,a[0];<< o[1] b,3;= p[0] x;~ _ b";
 
 // Spellings of that program: other names of results, and other spellings of bounds and literals.
 const SPELLINGS: &str = "\
 f|o u64[2];p u64[1]|a u64[2] - 5/6;b u64;c u1;d u64|addcarryx o[0],y c,b,a[0];<< o[1] b,3;= p[0] y;~ _ b
+f~none|o u64[2];p u64[1]|a u64[2] - 5/6;b u64;c u1;d u64|addcarryx o[0],x c,b,a[0];<< o[1] b,3;= p[0] x;~ _ b
 f|o u64[2];p u64[1] 0|a u64[2] 0/0 0x5/06;b u64;c u64 - 1;d u64|addcarryx o[0],x c,b,a[0];<< o[1] b,0x3;= p[0] x;~ _ b
 ";
 
 // Programs that differ from it, each in as little as can be.
 const DIFFERENT: &str = "\
+f~any|o u64[2];p u64[1]|a u64[2] - 5/6;b u64;c u1;d u64|addcarryx o[0],x c,b,a[0];<< o[1] b,3;= p[0] x;~ _ b
 g|o u64[2];p u64[1]|a u64[2] - 5/6;b u64;c u1;d u64|addcarryx o[0],x c,b,a[0];<< o[1] b,3;= p[0] x;~ _ b
 f|o u64[2];p u64[1]|a u64[2] - 5/6;b u64;c u1;e u64|addcarryx o[0],x c,b,a[0];<< o[1] b,3;= p[0] x;~ _ b
 f|o u64[2];p u64[1]|a u64[2] - 5/6;b u64;c u1;d u64[1]|addcarryx o[0],x c,b,a[0];<< o[1] b,3;= p[0] x;~ _ b

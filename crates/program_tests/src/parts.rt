@@ -1,4 +1,5 @@
-//! How a row of a test spells the parts of a program: `NAME|RETURNS|ARGUMENTS|OPERATIONS`.
+//! How a row of a test spells the parts of a program: `NAME|RETURNS|ARGUMENTS|OPERATIONS`, with `~OVERLAP` behind the
+//! name where the program says whether outputs may overlap inputs.
 //!
 //! Parameters and operations have `;` between them. A parameter is its name, its datatype, and its low and its high
 //! bounds where it has them, with `-` for no low ones. An operation is its name, its results and its arguments, with
@@ -72,16 +73,28 @@ fn body(alloc: Global, list: &str) -> Result<RawOps, AllocError> {
     Ok(body)
 }
 
+// The name, and the text behind `~` where there is one.
+fn name_and_overlap(alloc: Global, text: &str) -> Result<(Text, Option<Text>), AllocError> {
+    match text.split_once('~') {
+        Some((name, overlap)) => Ok((
+            Text::from_str(alloc, name)?,
+            Some(Text::from_str(alloc, overlap)?),
+        )),
+        None => Ok((Text::from_str(alloc, text)?, None)),
+    }
+}
+
 /// The parts that a row spells.
 pub fn parts(alloc: Global, row: &str) -> Result<RawProgram, AllocError> {
     let (name, rest) = cut(row, '|');
     let (returns, rest) = cut(rest, '|');
     let (arguments, operations) = cut(rest, '|');
+    let (name, overlap) = name_and_overlap(alloc, name)?;
     Ok(RawProgram {
-        name: Text::from_str(alloc, name)?,
+        name,
         returns: params(alloc, returns)?,
         arguments: params(alloc, arguments)?,
         body: body(alloc, operations)?,
-        overlap: None,
+        overlap,
     })
 }

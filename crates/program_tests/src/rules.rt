@@ -8,6 +8,11 @@ use word_program::{Program, ProgramFault, RawProgram, Section};
 
 // The rules of the program as a whole.
 const WHOLE: &str = "\
+P01 top 0 0 # f~some|o u64[1]||= o[0] 1 # f~any|o u64[1]||= o[0] 1
+P01 top 0 0 # f~Any|o u64[1]||= o[0] 1 # f~none|o u64[1]||= o[0] 1
+P01 top 0 0 # f~|o u64[1]||= o[0] 1 # f|o u64[1]||= o[0] 1
+P01 top 0 0 # f~any |o u64[1]||= o[0] 1 # f~any|o u64[1]|a u64|= o[0] a
+P01 top 0 0 # f~none,any|o u64[1]||= o[0] 1 # f~none|o u64[1]|a u64|= o[0] a
 P02 top 0 0 # 1f|o u64[1]||= o[0] 1 # f1|o u64[1]||= o[0] 1
 P02 top 0 0 # _|o u64[1]||= o[0] 1 # __|o u64[1]||= o[0] 1
 P02 top 0 0 # |o u64[1]||= o[0] 1 # F|o u64[1]||= o[0] 1
@@ -214,6 +219,10 @@ P13 body 0 1 # f|o u64[1]|a u64[2] - 1/2|cmovznz o[0] a[1],1,1 # f|o u64[1]|a u6
 
 // Faults, and parts that break two rules, of which this is the first.
 const FIRST: &str = "\
+P01 top 0 0 # 1f~some|||
+P01 top 0 0 # f~some||a0 u64;a1 u64;a2 u64;a3 u64;a4 u64;a5 u64;a6 u64|
+P01 top 0 0 # f~some|2 u64||foo
+P02 top 0 0 # 1f~any|||
 P02 top 0 0 # 1f|o u64[1]|a0 u64;a1 u64;a2 u64;a3 u64;a4 u64;a5 u64|
 P02 top 0 0 # 1f|||
 P05 top 0 0 # f||a0 u64;a1 u64;a2 u64;a3 u64;a4 u64;a5 u64;a6 u64|

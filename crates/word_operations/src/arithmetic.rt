@@ -1,5 +1,6 @@
 ghost use Rattle.std.specs.Prelude.{◌≡◌, ◌+◌, ◌-◌, ◌*◌, ◌/◌, ◌%◌, ◌^◌, ◌<◌, ◌++◌, ◌∷◌, option_to_list, slice_index};
-ghost use Rattle.std.specs.Prelude.{OnOk};
+ghost use Rattle.std.specs.Prelude.{OnOk, OnErr};
+ghost use Rattle.std.specs.Io.{StartsWith};
 ghost use Rattle.word_operations.specs.Operations as spec;
 
 use crate::kind::Kind;
@@ -78,7 +79,8 @@ fn second_result(kind: Kind, a: u64, b: u64, c: u64) -> Option<u64>
     }
 }
 
-/// Puts the results of an operation on these operands at the end of a vector.
+/// Puts the results of an operation on these operands at the end of a vector. The one error is want of memory, after
+/// which the vector still begins with what it had.
 pub fn push_results(
     values: &mut Vec<u64>,
     kind: Kind,
@@ -86,7 +88,8 @@ pub fn push_results(
     b: u64,
     c: u64,
 ) -> Result<(), AllocError>
-    ensures { OnOk result (values.new.items ≡ values.old.items ++ spec.results_on kind a b c) }
+    ensures ok { OnOk result (values.new.items ≡ values.old.items ++ spec.results_on kind a b c) }
+    ensures err { OnErr result (StartsWith values.new.items values.old.items) }
 {
     values.push(first_result(kind, a, b, c))?;
     if let Some(second) = second_result(kind, a, b, c) {

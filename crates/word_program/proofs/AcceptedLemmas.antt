@@ -1,5 +1,6 @@
 -- What every program keeps.
-use Rattle.std.proofs.Common.{◌≡◌, ℕ, ◌+◌, ◌≤◌, Bool, true, false, List, length, refl, arith, sym, ◌∙◌, subst, zero-add}
+use Rattle.std.proofs.Common.{◌≡◌, ℕ, ◌+◌, ◌^◌, ◌<◌, ◌≤◌, Bool, true, false, List, length, refl, arith, sym, ◌∙◌, subst}
+use Rattle.std.proofs.Common.{zero-add}
 use Rattle.std.proofs.Common.{[]}
 use Rattle.std.proofs.lemmas.Bool.Decides.{nat_tests}
 use Rattle.std.specs.Prelude.{None, not, ◌==◌, nat_lt}
@@ -9,15 +10,18 @@ use Rattle.base.specs.Identifiers.{is_identifier}
 use Rattle.word_program.specs.declared.operation.Target.{Target}
 use Rattle.word_program.specs.Program.{Source}
 use Rattle.word_program.specs.Walk.{first_code, at, place_in, walk}
-use Rattle.word_program.specs.Rules.{is_overlap_if_there, top_rules, params_fault, body_fault, params_of, first_fault, program_of, start}
+use Rattle.word_program.specs.Rules.{is_overlap_if_there, top_rules, params_fault, body_fault, params_of, first_fault}
+use Rattle.word_program.specs.Rules.{program_of, start}
 use Rattle.word_program.specs.Rules.{scope_after, operation_fault, with_operation}
 use Rattle.word_program.specs.Accepted.{IsAccepted, IsKept, AreOps, IsOutputWord}
 use Rattle.word_program.proofs.RowLemmas.{rows5, at_none, or_none, not_false}
 use Rattle.word_program.proofs.OpsKept.{ops_kept}
 use Rattle.word_program.proofs.WrittenKept.{AtMostOnce, ops_once, written_once}
-use Rattle.word_program.specs.Values.{is_at}
+use Rattle.word_program.specs.Values.{is_at, input_bounds}
+use Rattle.word_program.proofs.InputLemmas.{inputs_limit}
 use Rattle.std.specs.Prelude.{count_by}
 use Rattle.word_program.proofs.ParamKept.{params_kept, params_count}
+use Rattle.word_program.proofs.ParamOrder.{first_output, outputs_before, names_distinct}
 use Rattle.word_program.proofs.SomeOps.{some_number, some_ops}
 use Rattle.word_program.proofs.BodyLemmas.{ops_count, IsScope, scope_fact, targets_count}
 
@@ -34,7 +38,7 @@ pub record IsTop (p : RawProgram) : Type 0 where
 pub top_kept : (p : RawProgram) → first_code (top_rules p) ≡ None → IsTop p
 unfolding top_rules
 top_kept p none =
-    let r = rows5 1 2 5 6 15 (not (is_overlap_if_there p.overlap)) (not (is_identifier p.name))
+    let r = rows5 _ _ _ _ _ (not (is_overlap_if_there p.overlap)) (not (is_identifier p.name))
     (nat_lt 6 (length p.returns + length p.arguments)) (nat_lt 2048 (length p.body)) (length p.returns == 0) none in
     record { name = not_false _ r.1; params = at_most _ _ r.2; some_return = some_number _ r.4; ops = at_most _ _ r.3 }
 
@@ -54,21 +58,29 @@ accepted p none =
     let ops = ops_kept p.body (start (params_of p)) 0 (params_kept p b.0) refl body.0 in
     let none_yet : AtMostOnce [] = record { once = λ (param word : ℕ). omega arith } in
     let once = ops_once p.body (start (params_of p)) 0 body.0 none_yet in
+    let output = first_output p top.some_return in
     let once_written = written_once (scope_after (params_of p) p.body).targets (params_of p) body.1 once in
     let written = subst (λ (ts : List Target). (param word : ℕ) → IsOutputWord (params_of p) param word
     → count_by (is_at param word) ts ≡ 1) kept.targets_kept once_written in
     record {
       written = written;
-      some_ops = some_ops p.returns p.arguments (scope_after (params_of p) p.body).ops top.some_return
-          (params_kept p b.0) written;
+      some_ops = some_ops (params_of p) (scope_after (params_of p) p.body).ops output (params_kept p b.0) written;
       name = top.name;
       ops = subst (AreOps (params_of p) []) (sym ops.behind) ops.legal;
       params_limit = subst (λ (n : ℕ). n ≤ 6) (sym (params_count p)) top.params;
       params = params_kept p b.0;
+      names = names_distinct p b.0;
+      some_output = output;
+      outputs_first = outputs_before p b.0;
       ops_limit = subst (λ (n : ℕ). n ≤ 2048)
           (sym (ops_count p.body (start (params_of p)) ∙ zero-add (length p.body))) top.ops;
       values_limit = subst (λ (ts : List Target). length ts ≤ 4096) kept.targets_kept few;
     }
+
+-- a program has few input words
+pub inputs_few : (source : Source) → IsAccepted source → length (input_bounds source.params) < 2 ^ 32
+inputs_few source accepted =
+    let words = inputs_limit source.params accepted.params in let params = accepted.params_limit in omega arith
 
 -- so a program keeps it
 pub kept_accepted : (source : Source) (ts : List Target) (bits : List Bool) → IsKept source ts bits → IsAccepted source

@@ -137,9 +137,9 @@ named_kind (Some kind) e = refl
 pub shape_kept : (o : RawOp) → first_code (shape_rules o) ≡ None → HasShape o
 unfolding shape_rules
 shape_kept o none =
-    let r7 = row_passes 7 (is_none (kind_named o.operation))
-    ((8, not (has_arity (kind_or (kind_named o.operation)) o)) ∷ []) none in
-    let r8 = row_passes 8 (not (has_arity (kind_or (kind_named o.operation)) o)) [] r7.1 in
+    let r7 = row_passes _ (is_none (kind_named o.operation))
+    ((_, not (has_arity (kind_or (kind_named o.operation)) o)) ∷ []) none in
+    let r8 = row_passes _ (not (has_arity (kind_or (kind_named o.operation)) o)) [] r7.1 in
     let counts = and_true (length o.arguments == argument_count (kind_or (kind_named o.operation)))
     (length o.results == result_count (kind_or (kind_named o.operation))) (not_false _ r8.0) in
     record {

@@ -4,8 +4,11 @@ pub mod MissingLemmas
 pub mod RowLemmas
 pub mod BodyLemmas
 pub mod ParamKept
+pub mod ParamOrder
 pub mod AcceptedLemmas
 pub mod InputLemmas
+pub mod InputWords
+pub mod BitLemmas
 pub mod CopyLemmas
 pub mod OperandKept
 pub mod OpsKept

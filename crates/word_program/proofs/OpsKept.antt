@@ -127,7 +127,7 @@ argument_kept : (s : Scope) (kind : Kind) (place : ℕ) (text : List ℕ) → Al
     → first_code (argument_rules s kind place text) ≡ None → IsArgument s kind place text
 unfolding argument_rules
 argument_kept s kind place text all none =
-    let r = rows4 9 11 12 13 (not (starts_with_digit text) && is_none (operand_of s text))
+    let r = rows4 _ _ _ _ (not (starts_with_digit text) && is_none (operand_of s text))
     (starts_with_digit text && is_none (operand_of s text))
     (needs_shift kind place && not (is_shift (read_as s text)))
     (needs_bit kind place && not (is_bit_by s.params s.bits (read_as s text))) none in
@@ -183,7 +183,7 @@ count_passes : (s : Scope) (kind : Kind) (place : ℕ) (text : List ℕ)
     → is_shift (read_as s text) ≡ true
 unfolding argument_rules
 count_passes s kind place text none =
-    let r = rows4 9 11 12 13 (not (starts_with_digit text) && is_none (operand_of s text))
+    let r = rows4 _ _ _ _ (not (starts_with_digit text) && is_none (operand_of s text))
     (starts_with_digit text && is_none (operand_of s text))
     (needs_shift kind place && not (is_shift (read_as s text)))
     (needs_bit kind place && not (is_bit_by s.params s.bits (read_as s text))) none in

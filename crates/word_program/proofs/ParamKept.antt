@@ -161,12 +161,27 @@ param_form : (name : List ℕ) (o : Option Datatype) (d : Datatype) (p : Option 
     → IsParam (record { name = name; role = (unwrap_or o no_datatype).role; bounds = unwrap_or p [] })
 param_form name o d p bs eo ep is = rw (eo, ep) is
 
+-- the datatype of a parameter that breaks no rule is one, and its name is new
+pub record PassesAsParam (section : Section) (ps : List Param) (raw : RawParam) : Type 0 where
+  pub datatype : Datatype
+  pub known : datatype_of section raw.datatype ≡ Some datatype
+  pub new : is_some (param_named ps (param_of section raw).name) ≡ false
+
+pub parameter_passes : (section : Section) (ps : List Param) (raw : RawParam)
+    → first_code (parameter_rules section ps raw) ≡ None → PassesAsParam section ps raw
+unfolding parameter_rules param_of
+parameter_passes section ps raw none =
+    let r = rows4 _ _ _ _ (not (is_identifier raw.name)) (is_none (datatype_of section raw.datatype))
+    (is_none (bounds_said section raw)) (is_some (param_named ps raw.name)) none in
+    let d = some_of (datatype_of section raw.datatype) r.1 in
+    record { datatype = d.0; known = d.1; new = r.3 }
+
 -- a parameter that breaks no rule
 pub param_kept : (section : Section) (ps : List Param) (raw : RawParam)
     → first_code (parameter_rules section ps raw) ≡ None → IsParam (param_of section raw)
 unfolding parameter_rules param_of
 param_kept section ps raw none =
-    let r = rows4 2 3 4 10 (not (is_identifier raw.name)) (is_none (datatype_of section raw.datatype))
+    let r = rows4 _ _ _ _ (not (is_identifier raw.name)) (is_none (datatype_of section raw.datatype))
     (is_none (bounds_said section raw)) (is_some (param_named ps raw.name)) none in
     let d = some_of (datatype_of section raw.datatype) r.1 in
     let bs = some_of (bounds_said section raw) r.2 in

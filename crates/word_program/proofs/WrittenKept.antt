@@ -104,10 +104,10 @@ new_word s text param number none here =
     let rule14 = is_word_form text && option_map_or (λ (w : ParamWord). is_written s.targets w.param w.word)
     (output_at s.params text) true in
     let rule10 = is_identifier text && (is_some (param_named s.params text) || is_some (value_named s.names text)) in
-    let r2 = row_passes 2 (not (is_identifier text || (is_unused text || is_word_form text)))
-    ((10, rule10) ∷ (14, rule14) ∷ []) none in
-    let r10 = row_passes 10 rule10 ((14, rule14) ∷ []) r2.1 in
-    let r14 = row_passes 14 rule14 [] r10.1 in
+    let r2 = row_passes _ (not (is_identifier text || (is_unused text || is_word_form text)))
+    ((_, rule10) ∷ (_, rule14) ∷ []) none in
+    let r10 = row_passes _ rule10 ((_, rule14) ∷ []) r2.1 in
+    let r14 = row_passes _ rule14 [] r10.1 in
     new_by s.targets param number (is_identifier text) (is_unused text) (is_some (word_parts text))
     (output_at s.params text) (parts_of_output s.params text) r14.0 here
 
@@ -157,8 +157,8 @@ word_there : (ts : List Target) (param : ℕ) (bs : List Bounds) (n j : ℕ)
 word_there ts param [] n j none lt = absurd (omega arith)
 word_there ts param (b ∷ bs) n zero none lt =
     let r = or_none (missing_word ts param tt n b) (walk (missing_word ts param) (λ u b. u) tt (n + 1) bs) none in
-    let rule = row_passes 14 (not (is_written ts param n)) []
-    (at_none (place_in Returns param n) ((14, not (is_written ts param n)) ∷ []) r.0) in
+    let rule = row_passes _ (not (is_written ts param n)) []
+    (at_none (place_in Returns param n) ((_, not (is_written ts param n)) ∷ []) r.0) in
     let e : n ≡ n + 0 = omega arith in
     ap (is_written ts param) (sym e) ∙ not_false _ rule.0
 word_there ts param (b ∷ bs) n (suc j) none lt =

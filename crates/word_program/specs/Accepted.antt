@@ -1,8 +1,11 @@
 -- What every program keeps.
-use Rattle.std.specs.Prelude.{count_by, ◌≡◌, ℕ, ◌-◌, ◌^◌, ◌<◌, ◌≤◌, Bool, true, List, [], ◌∷◌, ◌++◌, length, None}
+use Rattle.std.specs.Prelude.{count_by, ◌≡◌, ℕ, ◌-◌, ◌^◌, ◌<◌, ◌≤◌, Bool, true, List, [], ◌∷◌, ◌++◌, length, map, None}
 use Rattle.std.specs.Prelude.{slice_get, slice_index_or, IsTrue, IsFalse, IsSomeAnd}
-use Rattle.std.specs.List.{AllByRecursion}
+use Rattle.std.specs.List.{AllByRecursion, IsDistinct}
+use Rattle.std.specs.Str.{bytes_eq}
+use Rattle.base.specs.declared.limits.TheConstants.{MAX_PARAMS, MAX_ARRAY_WORDS, MAX_OPERATIONS}
 use Rattle.base.specs.Identifiers.{is_identifier}
+use Rattle.word_program.specs.declared.limits.TheConstants.{MAX_VALUES}
 use Rattle.word_program.specs.declared.parameter.Bounds.{Bounds}
 use Rattle.word_program.specs.declared.parameter.Param.{Param}
 use Rattle.word_program.specs.declared.operation.Op.{Op}
@@ -25,11 +28,11 @@ pub record AreBounds (b : Bounds) : Type 0 where
   pub ordered : b.low ≤ b.high
   pub word : b.high ≤ 2 ^ 64 - 1
 
--- a name, 1 to 32 words, of which a scalar has one, and the bounds of each
+-- a name, one word or more, of which a scalar has one, and the bounds of each
 pub record IsParam (p : Param) : Type 0 where
   pub name : IsTrue (is_identifier p.name)
   pub some_words : 1 ≤ length p.bounds
-  pub words : length p.bounds ≤ 32
+  pub words : length p.bounds ≤ MAX_ARRAY_WORDS
   pub scalar : is_scalar p.role ≡ true → length p.bounds ≡ 1
   pub bounds : AllByRecursion AreBounds p.bounds
 
@@ -88,13 +91,22 @@ AreOps params bits (op ∷ ops) = IsOp params bits op × AreOps params (bits ++ 
 abbrev pub IsOutputWord : List Param → ℕ → ℕ → Type 0
 IsOutputWord params param word = IsTarget params (targets.Output param word)
 
+-- the parameter with this number is there, and an output
+abbrev pub IsOutputParam : List Param → ℕ → Type 0
+IsOutputParam params number = IsSomeAnd (slice_get params number) (λ p. IsTrue (is_output p.role))
+
 pub record IsAccepted (source : Source) : Type 0 where
   pub name : IsTrue (is_identifier source.name)
-  pub params_limit : length source.params ≤ 6
+  pub params_limit : length source.params ≤ MAX_PARAMS
   pub params : AllByRecursion IsParam source.params
+  -- no two parameters have the same name
+  pub names : IsDistinct bytes_eq (map (λ p. p.name) source.params)
+  -- there is an output, and each parameter before an output is one
+  pub some_output : IsOutputParam source.params 0
+  pub outputs_first : (m n : ℕ) → m < n → IsOutputParam source.params n → IsOutputParam source.params m
   pub some_ops : 1 ≤ length source.ops
-  pub ops_limit : length source.ops ≤ 2048
-  pub values_limit : length (targets_of source.ops) ≤ 4096
+  pub ops_limit : length source.ops ≤ MAX_OPERATIONS
+  pub values_limit : length (targets_of source.ops) ≤ MAX_VALUES
   pub ops : AreOps source.params [] source.ops
   -- each output word is written once
   pub written : (param word : ℕ) → IsOutputWord source.params param word

@@ -1,7 +1,9 @@
 -- The programs that copy one word of an input array to an output array of one word, with no bounds and no overlap.
-use Rattle.std.specs.Prelude.{◌≡◌, ℕ, ◌-◌, ◌^◌, ◌<◌, ◌≤◌, Bool, true, false, not, ◌&&◌, ◌==◌, nat_lt, nat_le, List, [], ◌∷◌}
+use Rattle.std.specs.Prelude.{◌≡◌, ℕ, ◌-◌, ◌^◌, ◌<◌, ◌≤◌, Bool, true, false, not, ◌&&◌, ◌==◌, nat_lt, nat_le, List, []}
+use Rattle.std.specs.Prelude.{◌∷◌}
 use Rattle.std.specs.Prelude.{length, replicate, Option, None}
 use Rattle.std.specs.List.{list_all}
+use Rattle.base.specs.declared.limits.TheConstants.{MAX_ARRAY_WORDS}
 use Rattle.base.specs.Options.{◌>>=◌, guard, only}
 use Rattle.word_program.specs.declared.parameter.Bounds.{Bounds}
 use Rattle.word_program.specs.declared.parameter.Param.{Param}
@@ -45,7 +47,7 @@ pub record IsCopy (source : Source) : Type 0 where
   pub words : ℕ
   pub index : ℕ
   pub within : index < words
-  pub words_limit : words ≤ 32
+  pub words_limit : words ≤ MAX_ARRAY_WORDS
   pub is : source ≡ copy_of name output input words index
 
 abbrev pub is_full : Bounds → Bool
@@ -89,4 +91,4 @@ unfoldable pub copy_form : Source → Option (ℕ × ℕ)
 copy_form source = do
   words ← copied_words source.params
   index ← copied_index source.ops
-  guard (not source.overlap && (nat_lt index words && nat_le words 32)) (words, index)
+  guard (not source.overlap && (nat_lt index words && nat_le words MAX_ARRAY_WORDS)) (words, index)

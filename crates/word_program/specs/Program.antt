@@ -1,5 +1,6 @@
--- What a program is: parameters with bounds, operations in order, and whether outputs may overlap inputs. A parameter's number counts the
--- returns, then the arguments; a value number counts the results of all operations in order.
+-- What a program is: parameters with bounds, operations in order, and whether outputs may overlap inputs. A
+-- parameter's number counts the returns, then the arguments; a value number counts the results of all operations in
+-- order.
 use Rattle.std.specs.Prelude.{ℕ, ◌-◌, ◌^◌, Bool, List}
 use Rattle.word_program.specs.declared.parameter.Param.{Param}
 use Rattle.word_program.specs.declared.parameter.Bounds.{Bounds}

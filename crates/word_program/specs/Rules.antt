@@ -4,9 +4,11 @@
 use Rattle.std.specs.Prelude.{ℕ, ◌+◌, ◌-◌, ◌^◌, Bool, true, false, not, ◌&&◌, ◌||◌, ◌==◌, nat_lt, nat_le, List, [], ◌∷◌}
 use Rattle.std.specs.Prelude.{◌++◌, length, map, take, fold, codes, Option, Some, None, is_some, is_none, unwrap_or}
 use Rattle.std.specs.Prelude.{option_map, option_and_then, slice_get, if◌then◌else◌}
-use Rattle.std.specs.List.{position_from, list_all, list_any, range_with_len}
+use Rattle.std.specs.List.{position, position_from, list_all, list_any, range_with_len}
 use Rattle.std.specs.Option.{option_or, option_map_or}
 use Rattle.std.specs.Str.{bytes_eq}
+use Rattle.base.specs.declared.limits.TheConstants.{MAX_PARAMS, MAX_OPERATIONS}
+use Rattle.word_text.specs.declared.codes.TheConstants as code
 use Rattle.word_text.specs.declared.fault.Section.{Section}
 use Rattle.word_text.specs.declared.fault.Section.TheVariants.{Top, Returns, Arguments, Body}
 use Rattle.word_text.specs.declared.parts.RawOp.{RawOp}
@@ -45,11 +47,11 @@ is_overlap_if_there (Some text) = is_overlap text
 
 unfoldable pub top_rules : RawProgram → List Check
 top_rules p =
-    (1, not (is_overlap_if_there p.overlap))
-    ∷ (2, not (is_identifier p.name))
-    ∷ (5, nat_lt 6 (length p.returns + length p.arguments))
-    ∷ (6, nat_lt 2048 (length p.body))
-    ∷ (15, length p.returns == 0)
+    (code.SHAPE, not (is_overlap_if_there p.overlap))
+    ∷ (code.NAME, not (is_identifier p.name))
+    ∷ (code.PARAMETER_COUNT, nat_lt MAX_PARAMS (length p.returns + length p.arguments))
+    ∷ (code.OPERATION_COUNT, nat_lt MAX_OPERATIONS (length p.body))
+    ∷ (code.NO_RETURN, length p.returns == 0)
     ∷ []
 
 -- ---- parameters
@@ -109,14 +111,14 @@ bounds_said section param = bounds_of (unwrap_or (datatype_of section param.data
 
 -- the number of the parameter of this name
 abbrev pub param_named : List Param → List ℕ → Option ℕ
-param_named params name = position_from (λ p. bytes_eq p.name name) 0 params
+param_named params name = position (λ p. bytes_eq p.name name) params
 
 unfoldable pub parameter_rules : Section → List Param → RawParam → List Check
 parameter_rules section params param =
-    (2, not (is_identifier param.name))
-    ∷ (3, is_none (datatype_of section param.datatype))
-    ∷ (4, is_none (bounds_said section param))
-    ∷ (10, is_some (param_named params param.name))
+    (code.NAME, not (is_identifier param.name))
+    ∷ (code.DATATYPE, is_none (datatype_of section param.datatype))
+    ∷ (code.BOUNDS, is_none (bounds_said section param))
+    ∷ (code.REPEATED_NAME, is_some (param_named params param.name))
     ∷ []
 
 unfoldable pub param_of : Section → RawParam → Param
@@ -214,10 +216,10 @@ shift_or (Some (operands.Value number)) = 0
 -- the rules of the argument at a place of an operation of this kind
 unfoldable pub argument_rules : Scope → Kind → ℕ → List ℕ → List Check
 argument_rules s kind place text =
-    (9, not (starts_with_digit text) && is_none (operand_of s text))
-    ∷ (11, starts_with_digit text && is_none (operand_of s text))
-    ∷ (12, needs_shift kind place && not (is_shift (operand_or (operand_of s text))))
-    ∷ (13, needs_bit kind place && not (is_bit_by s.params s.bits (operand_or (operand_of s text))))
+    (code.OPERAND, not (starts_with_digit text) && is_none (operand_of s text))
+    ∷ (code.WORD, starts_with_digit text && is_none (operand_of s text))
+    ∷ (code.SHIFT, needs_shift kind place && not (is_shift (operand_or (operand_of s text))))
+    ∷ (code.BIT, needs_bit kind place && not (is_bit_by s.params s.bits (operand_or (operand_of s text))))
     ∷ []
 
 -- an earlier result was this output word
@@ -233,9 +235,17 @@ output_at params text = do
 -- the rules of a result
 unfoldable pub result_rules : Scope → List ℕ → List Check
 result_rules s text =
-    (2, not (is_identifier text || (is_unused text || is_word_form text)))
-    ∷ (10, is_identifier text && (is_some (param_named s.params text) || is_some (value_named s.names text)))
-    ∷ (14, is_word_form text && option_map_or (λ w. is_written s.targets w.param w.word) (output_at s.params text) true)
+    (code.NAME, not (is_identifier text || (is_unused text || is_word_form text)))
+    ∷ (
+      code.REPEATED_NAME,
+      is_identifier text
+          && (is_some (param_named s.params text) || is_some (value_named s.names text)),
+    )
+    ∷ (
+      code.OUTPUT,
+      is_word_form text && option_map_or (λ w. is_written s.targets w.param w.word)
+          (output_at s.params text) true,
+    )
     ∷ []
 
 -- where a result of this text goes
@@ -256,8 +266,8 @@ has_arity kind o = length o.arguments == argument_count kind && length o.results
 
 unfoldable pub shape_rules : RawOp → List Check
 shape_rules o =
-    (7, is_none (kind_named o.operation))
-    ∷ (8, not (has_arity (kind_or (kind_named o.operation)) o))
+    (code.OPERATION, is_none (kind_named o.operation))
+    ∷ (code.ARITY, not (has_arity (kind_or (kind_named o.operation)) o))
     ∷ []
 
 -- the faults of the argument and of the result with this number, of the operation with the number i
@@ -317,7 +327,7 @@ scope_after params body = fold with_operation (start params) body
 
 -- the output word is never written
 abbrev pub missing_word : List Target → ℕ → Unit {0} → ℕ → Bounds → Option RuleFault
-missing_word ts param u n b = at (place_in Returns param n) ((14, not (is_written ts param n)) ∷ [])
+missing_word ts param u n b = at (place_in Returns param n) ((code.OUTPUT, not (is_written ts param n)) ∷ [])
 
 -- the first word of an output parameter that is never written
 abbrev pub missing_in : List Target → Unit {0} → ℕ → Param → Option RuleFault

@@ -1,6 +1,7 @@
 ghost use Rattle.std.specs.Prelude.{◌≡◌, ◌++◌, ◌+◌, ◌≤◌, ◌<◌, [], ◌∷◌, ℕ, length, map, fold, slice_get, IfOk, IfSome};
-ghost use Rattle.std.specs.Prelude.{IsTrue, OnOk};
+ghost use Rattle.std.specs.Prelude.{◌^◌, IsTrue, OnOk};
 ghost use Rattle.std.specs.List.{AllByRecursion};
+ghost use Rattle.base.specs.declared.limits.TheConstants.{MAX_OPERATIONS, MAX_PARAMS};
 ghost use Rattle.word_program.specs.Accepted.{IsParam};
 ghost use Rattle.word_program.specs.Rules as spec;
 ghost use Rattle.word_operations.specs.Operations as table;
@@ -9,10 +10,10 @@ ghost use Rattle.word_program.specs.Walk.{Meets, walk, at, place_in};
 use crate::operation::{Op, Operand, TargetList};
 use crate::parameter::Param;
 use crate::params::{memory, rule};
-use crate::reader::Reader;
+use crate::scope::BodyScope;
 use std::alloc::Global;
 use word_operations::{Kind, argument_count, kind_named, with_shift};
-use word_text::{Items, ProgramFault, RawOp, Section, Text};
+use word_text::{Items, ProgramFault, RawOp, Section, Text, codes};
 
 /// The kind of an operation, which has as many arguments and results as the kind has.
 #[tactic(auto, unfolding(crate::specs::Rules::shape_rules))]
@@ -24,13 +25,13 @@ fn kind_of(item: u32, raw: &RawOp) -> Result<Kind, ProgramFault>
     ensures results { IfOk result (λ kind. length raw.now.results ≤ 2) }
 {
     let Some(kind) = kind_named(raw.operation.as_str()) else {
-        return Err(rule(7, Section::Body, item, 0));
+        return Err(rule(codes::OPERATION, Section::Body, item, 0));
     };
     if raw.arguments.items().len() != argument_count(kind) {
-        return Err(rule(8, Section::Body, item, 0));
+        return Err(rule(codes::ARITY, Section::Body, item, 0));
     }
     if raw.results.items().len() != kind.result_count() {
-        return Err(rule(8, Section::Body, item, 0));
+        return Err(rule(codes::ARITY, Section::Body, item, 0));
     }
     Ok(kind)
 }
@@ -38,21 +39,21 @@ fn kind_of(item: u32, raw: &RawOp) -> Result<Kind, ProgramFault>
 /// The operands that the arguments of an operation are, a shift count among them.
 fn arguments(
     alloc: Global,
-    reader: &Reader<'_>,
+    scope: &BodyScope<'_>,
     item: u32,
     kind: Kind,
     texts: &[Text],
 ) -> Result<Vec<Operand>, ProgramFault>
     requires { length texts.now ≤ 3 }
-    ensures fault { Meets result (walk (spec.argument_fault reader.entry.now item kind)
+    ensures fault { Meets result (walk (spec.argument_fault scope.entry.now item kind)
         (λ u text. u) tt 0 texts.entry.now) }
     ensures value { IfOk result (λ operands. operands.items ≡ map
-        (λ text. spec.operand_or (spec.operand_of reader.entry.now text)) texts.entry.now) }
+        (λ text. spec.operand_or (spec.operand_of scope.entry.now text)) texts.entry.now) }
 {
     let mut operands = Vec::new(alloc);
     let mut place = 0;
     for text in texts {
-        match reader.argument(kind, place as usize, text.as_str()) {
+        match scope.argument(kind, place as usize, text.as_str()) {
             Ok(operand) => operands.push(operand).map_err(|_| ProgramFault::Memory)?,
             Err(code) => return Err(rule(code, Section::Body, item, 1 + place)),
         }
@@ -64,26 +65,26 @@ fn arguments(
 /// Puts the results of an operation behind those that are there, and answers where they go.
 fn results<'a>(
     alloc: Global,
-    reader: &mut Reader<'a>,
+    scope: &mut BodyScope<'a>,
     item: u32,
     before: u32,
     texts: &'a [Text],
 ) -> Result<TargetList, ProgramFault>
     requires few { length texts.now ≤ 2 }
     requires arguments { before ≤ 3 }
-    requires room { length reader.old.names + 2 ≤ 65536 }
-    ensures fault { Meets result (walk (spec.result_fault item before) spec.with_result reader.old 0 texts.entry.now) }
-    ensures state { OnOk result (reader.new ≡ fold spec.with_result reader.old texts.entry.now) }
-    ensures value { IfOk result (λ targets. targets ≡ map (spec.target_of reader.old.params) texts.entry.now) }
-    ensures more { OnOk result (length reader.new.names ≡ length reader.old.names + length texts.entry.now) }
+    requires room { length scope.old.names + 2 ≤ 2 ^ 16 }
+    ensures fault { Meets result (walk (spec.result_fault item before) spec.with_result scope.old 0 texts.entry.now) }
+    ensures state { OnOk result (scope.new ≡ fold spec.with_result scope.old texts.entry.now) }
+    ensures value { IfOk result (λ targets. targets ≡ map (spec.target_of scope.old.params) texts.entry.now) }
+    ensures more { OnOk result (length scope.new.names ≡ length scope.old.names + length texts.entry.now) }
 {
     let mut targets = Items::new(alloc);
     let mut place = 0;
     for text in texts {
-        match reader.result(text.as_str()) {
+        match scope.result(text.as_str()) {
             Ok(target) => {
                 targets.push(target).map_err(memory)?;
-                reader.add(text.as_str(), target).map_err(memory)?;
+                scope.add(text.as_str(), target).map_err(memory)?;
             }
             Err(code) => return Err(rule(code, Section::Body, item, 1 + before + place)),
         }
@@ -123,21 +124,21 @@ fn op_on(kind: Kind, operands: Vec<Operand>, targets: TargetList) -> Op
 #[tactic(auto, unfolding(crate::specs::Rules::operation_fault, crate::specs::Rules::with_operation, crate::specs::Rules::op_of))]
 fn operation<'a>(
     alloc: Global,
-    reader: &mut Reader<'a>,
+    scope: &mut BodyScope<'a>,
     item: u32,
     raw: &'a RawOp,
 ) -> Result<(), ProgramFault>
-    requires { length reader.old.names + 2 ≤ 65536 }
-    ensures fault { Meets result (spec.operation_fault reader.old item raw.entry.now) }
-    ensures state { OnOk result (reader.new ≡ spec.with_operation reader.old raw.entry.now) }
-    ensures more { OnOk result (length reader.new.names ≤ length reader.old.names + 2) }
+    requires { length scope.old.names + 2 ≤ 2 ^ 16 }
+    ensures fault { Meets result (spec.operation_fault scope.old item raw.entry.now) }
+    ensures state { OnOk result (scope.new ≡ spec.with_operation scope.old raw.entry.now) }
+    ensures more { OnOk result (length scope.new.names ≤ length scope.old.names + 2) }
 {
     let kind = kind_of(item, raw)?;
-    let operands = arguments(alloc, reader, item, kind, raw.arguments.items())?;
+    let operands = arguments(alloc, scope, item, kind, raw.arguments.items())?;
     let before = raw.arguments.items().len() as u32;
-    let targets = results(alloc, reader, item, before, raw.results.items())?;
+    let targets = results(alloc, scope, item, before, raw.results.items())?;
     let op = op_on(kind, operands, targets);
-    match reader.finish(op) {
+    match scope.finish(op) {
         Ok(()) => Ok(()),
         Err(_) => Err(ProgramFault::Memory),
     }
@@ -148,19 +149,19 @@ pub fn read_body<'a>(
     alloc: Global,
     params: &'a [Param],
     body: &'a [RawOp],
-) -> Result<Reader<'a>, ProgramFault>
-    requires few { length params.now ≤ 6 }
+) -> Result<BodyScope<'a>, ProgramFault>
+    requires few { length params.now ≤ MAX_PARAMS }
     requires params { AllByRecursion IsParam params.now }
-    requires short { length body.now ≤ 2048 }
+    requires short { length body.now ≤ MAX_OPERATIONS }
     ensures fault { Meets result (walk spec.operation_fault spec.with_operation
         (spec.start params.entry.now) 0 body.entry.now) }
-    ensures value { IfOk result (λ reader. reader ≡ spec.scope_after params.entry.now body.entry.now) }
+    ensures value { IfOk result (λ scope. scope ≡ spec.scope_after params.entry.now body.entry.now) }
 {
-    let mut reader = Reader::new(alloc, params);
+    let mut scope = BodyScope::new(alloc, params);
     let mut item = 0;
     for raw in body {
-        operation(alloc, &mut reader, item, raw)?;
+        operation(alloc, &mut scope, item, raw)?;
         item += 1;
     }
-    Ok(reader)
+    Ok(scope)
 }

@@ -7,6 +7,7 @@ use crate::lookup::{is_input_array, is_output};
 use crate::operation::{Op, Operand, Target};
 use crate::parameter::{Bounds, Param};
 use crate::program::Program;
+use base::MAX_ARRAY_WORDS;
 use word_operations::Kind;
 
 fn is_full(bounds: Bounds) -> bool
@@ -95,7 +96,7 @@ pub fn copy_form(program: &Program) -> Option<(usize, u8)>
 {
     let words = copied_words(program.params())?;
     let index = copied_index(program.ops())?;
-    if !program.overlap() && (index as usize) < words && words <= 32 {
+    if !program.overlap() && (index as usize) < words && words <= MAX_ARRAY_WORDS {
         Some((words, index))
     } else {
         None

@@ -1,6 +1,7 @@
 ghost use Rattle.std.specs.Prelude.{◌≡◌, ◌≤◌, ◌<◌, ◌+◌, ◌++◌, [], ℕ, length, map, position, slice_index, IfOk, IfErr};
 ghost use Rattle.std.specs.Prelude.{OnOk};
 ghost use Rattle.std.specs.List.{AllByRecursion, range_with_len};
+ghost use Rattle.base.specs.declared.limits.TheConstants.{MAX_PARAMS};
 ghost use Rattle.word_program.specs.Accepted.{IsParam};
 ghost use Rattle.word_program.specs.Evaluates.{Refuses};
 ghost use Rattle.word_program.specs.Values as values;
@@ -39,7 +40,7 @@ fn word_or(words: &[u64], place: usize) -> u64
 
 /// The word that an operand stands for, from the values so far.
 fn operand_word(params: &[Param], inputs: &[u64], so_far: &[u64], operand: Operand) -> u64
-    requires few { length params.now ≤ 6 }
+    requires few { length params.now ≤ MAX_PARAMS }
     requires params { AllByRecursion IsParam params.now }
     ensures { result ≡ values.operand_word params.now inputs.now so_far.now operand }
 {
@@ -54,7 +55,7 @@ fn operand_word(params: &[Param], inputs: &[u64], so_far: &[u64], operand: Opera
 
 /// The word of the operand at a place of an operation, or 0 where there is none.
 fn arg_word(params: &[Param], inputs: &[u64], so_far: &[u64], args: &[Operand], place: usize) -> u64
-    requires few { length params.now ≤ 6 }
+    requires few { length params.now ≤ MAX_PARAMS }
     requires params { AllByRecursion IsParam params.now }
     ensures { result ≡ slice_index (map (values.operand_word params.now inputs.now so_far.now) args.now) place }
 {
@@ -71,7 +72,7 @@ fn push_op(
     inputs: &[u64],
     op: &Op,
 ) -> Result<(), AllocError>
-    requires few { length params.now ≤ 6 }
+    requires few { length params.now ≤ MAX_PARAMS }
     requires params { AllByRecursion IsParam params.now }
     ensures { OnOk result (so_far.new.items ≡ so_far.old.items
         ++ values.op_words params.entry.now inputs.entry.now so_far.old.items op.entry.now) }
@@ -89,7 +90,7 @@ fn values_of(
     ops: &[Op],
     inputs: &[u64],
 ) -> Result<Vec<u64>, AllocError>
-    requires few { length params.now ≤ 6 }
+    requires few { length params.now ≤ MAX_PARAMS }
     requires params { AllByRecursion IsParam params.now }
     ensures { IfOk result (λ words. words.items ≡ values.values_on params.entry.now inputs.entry.now [] ops.entry.now) }
 {
@@ -172,7 +173,7 @@ fn memory(_: AllocError) -> EvalFault
 /// Whether these words are inputs of a program: as many as it has, each within its bounds. Where the number
 /// of words is another than the program's, the fault is `Count`, else where a word is out of its bounds, it is
 /// `OutOfBounds` of the first one.
-#[tactic(auto, using(crate::proofs::InputLemmas::within_by, crate::proofs::InputLemmas::inputs_limit))]
+#[tactic(auto, using(crate::proofs::InputLemmas::within_by))]
 pub fn check_inputs(alloc: Global, program: &Program, inputs: &[u64]) -> Result<(), EvalFault>
     ensures within { OnOk result (values.AreWithin inputs.now (values.input_bounds program.now.params)) }
     ensures err { IfErr result (λ fault. Refuses program.entry.now inputs.entry.now fault) }

@@ -1,5 +1,6 @@
 ghost use Rattle.std.specs.Prelude.{◌≡◌, ◌≤◌, ◌<◌, ◌*◌, ◌+◌, length, take, sum_by, IfOk, IfSome};
 ghost use Rattle.std.specs.List.{AllByRecursion};
+ghost use Rattle.base.specs.declared.limits.TheConstants.{MAX_ARRAY_WORDS, MAX_PARAMS};
 ghost use Rattle.word_program.specs.Accepted.{IsParam};
 ghost use Rattle.word_program.specs.Evaluates as spec;
 ghost use Rattle.word_program.specs.Values as values;
@@ -12,7 +13,7 @@ use std::alloc::{AllocError, Global};
 fn input_words(param: &Param) -> usize
     requires { IsParam param.now }
     ensures count { result ≡ values.input_words param.now }
-    ensures limit { result ≤ 32 }
+    ensures limit { result ≤ MAX_ARRAY_WORDS }
 {
     if is_output(param.role) {
         0
@@ -23,10 +24,10 @@ fn input_words(param: &Param) -> usize
 
 /// How many input words stand before those of a parameter.
 pub fn offset_of(params: &[Param], param: usize) -> usize
-    requires few { length params.now ≤ 6 }
+    requires few { length params.now ≤ MAX_PARAMS }
     requires params { AllByRecursion IsParam params.now }
     ensures count { result ≡ sum_by values.input_words (take param params.now) }
-    ensures limit { result ≤ 192 }
+    ensures limit { result ≤ MAX_PARAMS * MAX_ARRAY_WORDS }
 {
     let mut offset = 0;
     let mut number = 0;
@@ -42,7 +43,7 @@ pub fn offset_of(params: &[Param], param: usize) -> usize
 
 /// How many words the parameters write.
 pub fn output_count(params: &[Param]) -> u32
-    requires few { length params.now ≤ 6 }
+    requires few { length params.now ≤ MAX_PARAMS }
     requires params { AllByRecursion IsParam params.now }
     ensures { result ≡ values.output_count params.now }
 {

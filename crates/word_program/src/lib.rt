@@ -4,7 +4,8 @@
 //! of `specs/Rules.antt`, and else the first rule that they break, want of memory apart. It promises to whoever
 //! holds a [`Program`], as a listing's check or a compiler does, what every program keeps (`IsAccepted` of
 //! `specs/Accepted.antt`): [`Program::params`] and [`Program::ops`] say so. What a program computes is `values_of`
-//! and `outputs` of `specs/Values.antt`, and [`eval`] gives it.
+//! and `outputs` of `specs/Values.antt`, and [`eval`] gives it; [`bits_are_zero_or_one`] says that the bits that a
+//! carry, a borrow and a condition need are bits.
 #![tactic(auto)]
 
 mod bits;
@@ -12,21 +13,25 @@ mod body;
 mod copy;
 mod evaluation;
 mod inputs;
+mod laws;
+mod limits;
 mod lookup;
 mod missing;
 mod operation;
 mod parameter;
 mod params;
 mod program;
-mod reader;
+mod scope;
 
 pub use copy::copy_form;
 pub use evaluation::{EvalFault, check_inputs, eval};
+pub use laws::{bits_are_zero_or_one, values_are_words};
+pub use limits::MAX_VALUES;
 pub use operation::{Op, Operand, OperandList, Target, TargetList};
 pub use parameter::{Bounds, BoundsList, Param, Role};
 pub use program::Program;
 pub use word_operations::Kind;
 pub use word_text::{
     Items, Place, ProgramFault, RawOp, RawOps, RawParam, RawParams, RawProgram, Section, Text,
-    Texts,
+    Texts, codes,
 };

@@ -1,5 +1,6 @@
 ghost use Rattle.std.specs.Prelude.{◌≡◌, ◌<◌, ◌≤◌, length};
 ghost use Rattle.std.specs.List.{AllByRecursion, list_any};
+ghost use Rattle.base.specs.declared.limits.TheConstants.{MAX_PARAMS};
 ghost use Rattle.word_program.specs.Accepted.{IsParam};
 ghost use Rattle.word_program.specs.Rules as spec;
 ghost use Rattle.word_program.specs.Values as values;
@@ -40,7 +41,7 @@ fn is_scalar(role: Role) -> bool
 /// The scalar of this name.
 #[tactic(auto, unfolding(crate::specs::Rules::scalar_at))]
 pub fn scalar_at(params: &[Param], name: &str) -> Option<Operand>
-    requires { length params.now ≤ 6 }
+    requires { length params.now ≤ MAX_PARAMS }
     ensures { result ≡ spec.scalar_at params.now name.now }
 {
     let number = param_named(params, name)?;
@@ -58,7 +59,7 @@ pub fn scalar_at(params: &[Param], name: &str) -> Option<Operand>
 /// The word of an input array that a text is.
 #[tactic(auto, unfolding(crate::specs::Rules::array_operand))]
 pub fn array_operand(params: &[Param], text: &str) -> Option<Operand>
-    requires few { length params.now ≤ 6 }
+    requires few { length params.now ≤ MAX_PARAMS }
     requires params { AllByRecursion IsParam params.now }
     ensures { result ≡ spec.array_operand params.now text.now }
 {
@@ -76,7 +77,7 @@ pub fn array_operand(params: &[Param], text: &str) -> Option<Operand>
 /// The output word that a text is.
 #[tactic(auto, unfolding(crate::specs::Rules::output_at))]
 pub fn output_at(params: &[Param], text: &str) -> Option<ParamWord>
-    requires few { length params.now ≤ 6 }
+    requires few { length params.now ≤ MAX_PARAMS }
     requires params { AllByRecursion IsParam params.now }
     ensures { result ≡ spec.output_at params.now text.now }
 {

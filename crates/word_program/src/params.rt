@@ -1,6 +1,7 @@
 ghost use Rattle.std.specs.Prelude.{◌≡◌, ◌++◌, ◌+◌, ◌≤◌, ◌<◌, ℕ, length, option_map, IfOk, IfSome, OnOk};
 ghost use Rattle.std.specs.List.{AllByRecursion};
 ghost use Rattle.std.specs.Option.{option_map_or};
+ghost use Rattle.base.specs.declared.limits.TheConstants.{MAX_ARRAY_WORDS, MAX_PARAMS};
 ghost use Rattle.word_program.specs.Accepted.{IsParam};
 ghost use Rattle.word_program.specs.Rules as spec;
 ghost use Rattle.word_program.specs.Walk.{Meets, walk, place_in};
@@ -9,10 +10,10 @@ use crate::parameter::{Bounds, BoundsList, Param, Role};
 use base::{Items, Text, is_identifier, word};
 use std::alloc::{AllocError, Global};
 use word_text::{
-    Place, ProgramFault, RawParam, Section, Texts, array_words, index_below, word_parts,
+    Place, ProgramFault, RawParam, Section, Texts, array_words, codes, index_below, word_parts,
 };
 
-/// What a datatype says: the role, how many words, at most 32, and the greatest value of a word.
+/// What a datatype says: the role, how many words, and the greatest value of a word.
 #[derive(Clone, Copy)]
 pub struct Datatype {
     pub role: Role,
@@ -51,7 +52,7 @@ pub fn rule(code: u8, section: Section, item: u32, inner: u32) -> ProgramFault
 
 fn array_of(role: Role, text: &str) -> Option<Datatype>
     ensures value { result ≡ spec.array_of role text.now }
-    ensures within { IfSome result (λ d. d.words ≤ 32) }
+    ensures within { IfSome result (λ d. d.words ≤ MAX_ARRAY_WORDS) }
 {
     let words = array_words(text)?;
     Some(Datatype {
@@ -63,7 +64,7 @@ fn array_of(role: Role, text: &str) -> Option<Datatype>
 
 fn scalar_named(text: &str) -> Option<Datatype>
     ensures value { result ≡ spec.scalar_named text.now }
-    ensures within { IfSome result (λ d. d.words ≤ 32) }
+    ensures within { IfSome result (λ d. d.words ≤ MAX_ARRAY_WORDS) }
 {
     let most = if text == "u64" {
         u64::MAX
@@ -82,7 +83,7 @@ fn scalar_named(text: &str) -> Option<Datatype>
 /// What a datatype of a return or an argument says.
 fn datatype_of(section: Section, text: &str) -> Option<Datatype>
     ensures value { result ≡ spec.datatype_of section text.now }
-    ensures within { IfSome result (λ d. d.words ≤ 32) }
+    ensures within { IfSome result (λ d. d.words ≤ MAX_ARRAY_WORDS) }
 {
     match section {
         Section::Returns => array_of(Role::Output, text),
@@ -151,26 +152,27 @@ fn bounds_of(
     Ok(Some(bounds))
 }
 
-/// The number of the parameter of this name.
-pub fn param_named(params: &[Param], name: &str) -> Option<u8>
-    requires { length params.now ≤ 6 }
+fn first_named(params: &[Param], name: &str) -> Option<usize>
     ensures value { result ≡ spec.param_named params.now name.now }
     ensures within { IfSome result (λ n. n < length params.now) }
 {
-    let mut number = 0;
-    for param in params {
-        if param.name.as_str() == name {
-            return Some(number);
-        }
-        number += 1;
-    }
-    None
+    params.iter().position(|param| param.name.as_str() == name)
+}
+
+/// The number of the parameter of this name.
+pub fn param_named(params: &[Param], name: &str) -> Option<u8>
+    requires { length params.now ≤ MAX_PARAMS }
+    ensures value { result ≡ spec.param_named params.now name.now }
+    ensures within { IfSome result (λ n. n < length params.now) }
+{
+    let number = first_named(params, name)?;
+    Some(number as u8)
 }
 
 /// The word `name[index]` of a parameter.
 #[tactic(auto, using(crate::proofs::LookupLemmas::few_words), unfolding(crate::specs::Rules::word_at))]
 pub fn word_at(params: &[Param], text: &str) -> Option<ParamWord>
-    requires few { length params.now ≤ 6 }
+    requires few { length params.now ≤ MAX_PARAMS }
     requires params { AllByRecursion IsParam params.now }
     ensures { result ≡ spec.word_at params.now text.now }
 {
@@ -194,21 +196,21 @@ fn parameter(
     params: &[Param],
     raw: &RawParam,
 ) -> Result<Param, ProgramFault>
-    requires { length params.now ≤ 6 }
+    requires { length params.now ≤ MAX_PARAMS }
     ensures fault { Meets result (spec.parameter_fault section params.entry.now item raw.entry.now) }
     ensures value { IfOk result (λ param. param ≡ spec.param_of section raw.entry.now) }
 {
     if !is_identifier(raw.name.as_str().as_bytes()) {
-        return Err(rule(2, section, item, 0));
+        return Err(rule(codes::NAME, section, item, 0));
     }
     let Some(datatype) = datatype_of(section, raw.datatype.as_str()) else {
-        return Err(rule(3, section, item, 0));
+        return Err(rule(codes::DATATYPE, section, item, 0));
     };
     let Some(bounds) = bounds_of(alloc, datatype, raw).map_err(memory)? else {
-        return Err(rule(4, section, item, 0));
+        return Err(rule(codes::BOUNDS, section, item, 0));
     };
     if param_named(params, raw.name.as_str()).is_some() {
-        return Err(rule(10, section, item, 0));
+        return Err(rule(codes::REPEATED_NAME, section, item, 0));
     }
     let name = Text::from_str(alloc, raw.name.as_str()).map_err(memory)?;
     Ok(Param {
@@ -225,7 +227,7 @@ pub fn parameters(
     params: &mut Items<Param>,
     raws: &[RawParam],
 ) -> Result<(), ProgramFault>
-    requires { length params.old + length raws.now ≤ 6 }
+    requires { length params.old + length raws.now ≤ MAX_PARAMS }
     ensures fault { Meets result (walk (spec.parameter_fault section)
         (spec.with_param section) params.old 0 raws.entry.now) }
     ensures state { OnOk result (params.new ≡ spec.parameters_in section params.old raws.entry.now) }

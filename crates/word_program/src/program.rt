@@ -1,4 +1,6 @@
-ghost use Rattle.std.specs.Prelude.{◌≡◌, ◌<◌, ◌≤◌, ◌+◌, None, Decides, IfOk, IfErr, OnOk, length, option_map, sum_by, take};
+ghost use Rattle.std.specs.Prelude.{◌≡◌, ◌<◌, ◌≤◌, ◌+◌, ◌*◌, None, Decides, IfOk, IfErr, OnOk, length, option_map};
+ghost use Rattle.std.specs.Prelude.{sum_by, take};
+ghost use Rattle.base.specs.declared.limits.TheConstants.{MAX_ARRAY_WORDS};
 ghost use Rattle.word_program.specs.Accepted.{IsAccepted, IsKept};
 ghost use Rattle.word_program.specs.Rules.{first_fault, is_overlap_if_there, program_of, top_rules};
 ghost use Rattle.word_program.specs.Values as values;
@@ -11,10 +13,10 @@ use crate::missing::missing;
 use crate::operation::{Op, Operand, Target};
 use crate::parameter::Param;
 use crate::params::{memory, parameters, rule};
-use base::{Items, Text, is_identifier};
+use base::{Items, MAX_OPERATIONS, MAX_PARAMS, Text, is_identifier};
 use std::alloc::Global;
 use std::marker::Model;
-use word_text::{ProgramFault, RawProgram, Section, is_overlap, may_overlap};
+use word_text::{ProgramFault, RawProgram, Section, codes, is_overlap, may_overlap};
 
 /// A program that the rules accept. Contracts see it as a `Source`: its name, its parameters, the
 /// returns before the arguments, its operations in order, and whether outputs may overlap inputs.
@@ -54,23 +56,23 @@ fn is_overlap_if_there(text: Option<&Text>) -> bool
 #[tactic(auto, unfolding(crate::specs::Rules::top_rules))]
 fn top(parts: &RawProgram) -> Result<(), ProgramFault>
     ensures fault { Meets result (at (place_in Section.Top 0 0) (top_rules parts.now)) }
-    ensures few { OnOk result (length parts.now.returns + length parts.now.arguments ≤ 6) }
-    ensures short { OnOk result (length parts.now.body ≤ 2048) }
+    ensures few { OnOk result (length parts.now.returns + length parts.now.arguments ≤ MAX_PARAMS) }
+    ensures short { OnOk result (length parts.now.body ≤ MAX_OPERATIONS) }
 {
     if !is_overlap_if_there(parts.overlap.as_ref()) {
-        return Err(rule(1, Section::Top, 0, 0));
+        return Err(rule(codes::SHAPE, Section::Top, 0, 0));
     }
     if !is_identifier(parts.name.as_str().as_bytes()) {
-        return Err(rule(2, Section::Top, 0, 0));
+        return Err(rule(codes::NAME, Section::Top, 0, 0));
     }
-    if 6 < parts.returns.items().len() + parts.arguments.items().len() {
-        return Err(rule(5, Section::Top, 0, 0));
+    if MAX_PARAMS < parts.returns.items().len() + parts.arguments.items().len() {
+        return Err(rule(codes::PARAMETER_COUNT, Section::Top, 0, 0));
     }
-    if 2048 < parts.body.items().len() {
-        return Err(rule(6, Section::Top, 0, 0));
+    if MAX_OPERATIONS < parts.body.items().len() {
+        return Err(rule(codes::OPERATION_COUNT, Section::Top, 0, 0));
     }
     if parts.returns.items().len() == 0 {
-        return Err(rule(15, Section::Top, 0, 0));
+        return Err(rule(codes::NO_RETURN, Section::Top, 0, 0));
     }
     Ok(())
 }
@@ -93,9 +95,9 @@ impl Program {
             &mut params,
             parts.arguments.items(),
         )?;
-        let reader = read_body(alloc, params.items(), parts.body.items())?;
-        missing(params.items(), reader.targets())?;
-        let read = reader.into_parts();
+        let scope = read_body(alloc, params.items(), parts.body.items())?;
+        missing(params.items(), scope.targets())?;
+        let read = scope.into_parts();
         let name = Text::from_str(alloc, parts.name.as_str()).map_err(memory)?;
         Ok(Program {
             name,
@@ -138,7 +140,7 @@ impl Program {
         self.overlap
     }
 
-    /// How many values it has: the results of all operations.
+    /// How many values it has: the results of all operations, at most [`MAX_VALUES`](crate::MAX_VALUES).
     pub fn values(&self) -> u32
         ensures { result ≡ length (values.targets_of self.now.ops) }
     {
@@ -150,13 +152,13 @@ impl Program {
     pub fn input_words(&self) -> u32
         ensures { result ≡ length (values.input_bounds self.now.params) }
     {
-        offset_of(self.params(), 6) as u32
+        offset_of(self.params(), MAX_PARAMS) as u32
     }
 
     /// How many input words stand before those of the parameter with this number.
     pub fn input_offset(&self, param: usize) -> usize
         ensures count { result ≡ sum_by values.input_words (take param self.now.params) }
-        ensures limit { result ≤ 192 }
+        ensures limit { result ≤ MAX_PARAMS * MAX_ARRAY_WORDS }
     {
         offset_of(self.params(), param)
     }

@@ -1,8 +1,9 @@
-//! The parts of a program as its file spells it: its texts, and the places of its faults.
+//! The parts of a program as its file spells it: its texts, and the codes and places of its faults.
 //!
 //! It promises to the reader of a program what a text is: an index, a word of an array, or a datatype.
 #![tactic(auto)]
 
+pub mod codes;
 mod fault;
 mod names;
 mod numbers;

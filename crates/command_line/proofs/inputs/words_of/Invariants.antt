@@ -1,3 +1,4 @@
+-- The loop of `words_of`.
 use Rattle.std.proofs.Common.{◌≡◌, ◌++◌, drop, map}
 use Rattle.std.specs.Prelude.{option_map}
 use Rattle.command_line.specs.Inputs as spec

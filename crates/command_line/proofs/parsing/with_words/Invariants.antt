@@ -1,7 +1,7 @@
 -- The command so far has the names before this place.
 use Rattle.std.proofs.Common.{◌≡◌, fold, map, drop}
 use Rattle.clap.specs.Simple.{app_of}
-use Rattle.command_line.specs.Forms.{with_word}
+use Rattle.command_line.specs.Table.{with_word}
 use Rattle.command_line.proofs.parsing.with_words.Given as goal
 
 abbrev pub invariant-loop-name : goal.invariant-loop-name

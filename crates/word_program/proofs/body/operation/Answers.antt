@@ -8,7 +8,7 @@ use Rattle.word_program.proofs.body.operation.Goals as goal
 pub returns-in-Ok-clause-state : goal.returns-in-Ok-clause-state
 returns-in-Ok-clause-state c =
     c.in-Ok.ensures
-    ∙ ap (λ op. with_op c.results.new.reader op) c.op_on-op.ensures
+    ∙ ap (λ op. with_op c.results.new.scope op) c.op_on-op.ensures
     ∙ operation_is _ _ _ _ _ _ _ _ c.items.ensures c.items-3.ensures c.in_ok-kind.ensures.value
     c.in_ok-operands.ensures.value c.in_ok-targets.ensures.value c.in_ok-targets.ensures.state
 

@@ -8,8 +8,8 @@ use Rattle.word_program.proofs.body.read_body.Given as goal
 abbrev pub invariant-loop-raw : goal.invariant-loop-raw
 invariant-loop-raw l = record {
   count : l.item ≡ l.raw-index;
-  names : length l.reader.names ≤ 2 * l.raw-index;
+  names : length l.scope.names ≤ 2 * l.raw-index;
   fault : walk operation_fault with_operation (start l.params) 0 l.body
-      ≡ walk operation_fault with_operation l.reader l.item (drop l.raw-index l.body);
-  state : fold with_operation (start l.params) l.body ≡ fold with_operation l.reader (drop l.raw-index l.body);
+      ≡ walk operation_fault with_operation l.scope l.item (drop l.raw-index l.body);
+  state : fold with_operation (start l.params) l.body ≡ fold with_operation l.scope (drop l.raw-index l.body);
 }

@@ -4,8 +4,8 @@ use Rattle.word_program.specs.Copy.{copy_form}
 use Rattle.word_program.proofs.CopyLemmas.{copy_is}
 use Rattle.word_program.proofs.copy.copy_form.Goals as goal
 
-pub returns-then-words-le32-clause-copy : goal.returns-then-words-le32-clause-copy
+pub returns-then-words-le-MAX_ARRAY_WORDS-clause-copy : goal.returns-then-words-le-MAX_ARRAY_WORDS-clause-copy
 unfolding copy_form
-returns-then-words-le32-clause-copy c =
+returns-then-words-le-MAX_ARRAY_WORDS-clause-copy c =
     let form : copy_form c.args.program.now ≡ Some (c.in_ok-words.words, c.in_ok-index.index) = search rules in
     copy_is c.args.program.now _ form

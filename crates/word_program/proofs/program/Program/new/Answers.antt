@@ -21,8 +21,8 @@ missing-requires-clause-params c =
 pub invariant_of-result : goal.invariant_of-result
 unfolding first_fault program_of
 invariant_of-result c =
-    let read : c.in_ok-reader.reader ≡ scope_after c.items-5.result.now c.args.parts.now.body = search rules in
-    let kept : IsScope c.parameters-2.new.params c.in_ok-reader.reader =
+    let read : c.in_ok-scope.scope ≡ scope_after c.items-5.result.now c.args.parts.now.body = search rules in
+    let kept : IsScope c.parameters-2.new.params c.in_ok-scope.scope =
     scope_fact _ c.items-5.result.now c.args.parts.now.body _ c.items-5.ensures read in record {
       parts = c.args.parts.now;
       sound = search rules;

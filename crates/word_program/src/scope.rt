@@ -1,5 +1,6 @@
-ghost use Rattle.std.specs.Prelude.{◌≡◌, ◌++◌, ◌+◌, ◌≤◌, ◌<◌, [], ◌∷◌, ℕ, length, map, None, IfOk, OnOk, string_bytes};
+ghost use Rattle.std.specs.Prelude.{◌≡◌, ◌++◌, ◌+◌, ◌≤◌, ◌<◌, ◌^◌, [], ◌∷◌, ℕ, length, map, None, IfOk, OnOk};
 ghost use Rattle.std.specs.List.{AllByRecursion};
+ghost use Rattle.base.specs.declared.limits.TheConstants.{MAX_PARAMS};
 ghost use Rattle.word_program.specs.Accepted.{IsParam};
 ghost use Rattle.word_program.specs.Rules as spec;
 ghost use Rattle.word_program.specs.Values as values;
@@ -14,12 +15,12 @@ use std::alloc::{AllocError, Global};
 use std::collections::BTreeMap;
 use std::marker::Model;
 use word_operations::{Kind, needs_bit, needs_shift};
-use word_text::{is_unused, is_word_form, starts_with_digit};
+use word_text::{codes, is_unused, is_word_form, starts_with_digit};
 
 /// What stands before an operation: the parameters, the results so far and the operations so far. The
 /// index finds a result by its name.
 #[derive(Drop)]
-pub struct Reader<'a> {
+pub struct BodyScope<'a> {
     params: &'a [Param],
     names: Vec<&'a str>,
     index: BTreeMap<&'a str, u16>,
@@ -36,12 +37,13 @@ pub struct ReadOps {
     pub bits: Vec<bool>,
 }
 
-impl<'a> Model for Reader<'a> {
+impl<'a> Model for BodyScope<'a> {
     ghost use Rattle.std.specs.Prelude.{◌≡◌, ◌≤◌, ℕ, List, length, map};
     ghost use Rattle.std.specs.BTreeMap.{get_by};
     ghost use Rattle.std.specs.Ordering.{nat_cmp};
     ghost use Rattle.std.specs.Cmp.Lexicographic.{slice_cmp};
     ghost use Rattle.std.specs.List.{AllByRecursion};
+    ghost use Rattle.base.specs.declared.limits.TheConstants.{MAX_PARAMS};
     ghost use Rattle.word_program.specs.Accepted.{IsParam};
     ghost use Rattle.word_program.specs.Rules.{Scope, value_named};
 
@@ -55,19 +57,19 @@ impl<'a> Model for Reader<'a> {
       ops = s.ops;
     } };
 
-    ghost invariant = { λ s. (length s.params.now ≤ 6) × (AllByRecursion IsParam s.params.now)
+    ghost invariant = { λ s. (length s.params.now ≤ MAX_PARAMS) × (AllByRecursion IsParam s.params.now)
         × ((t : List ℕ) → get_by (λ k. slice_cmp nat_cmp t k.now) s.index ≡ value_named
         (map (λ n. n.now) s.names.items) t) };
 }
 
-impl<'a> Reader<'a> {
+impl<'a> BodyScope<'a> {
     /// Nothing but the parameters.
-    pub fn new(alloc: Global, params: &'a [Param]) -> Reader<'a>
-        requires few { length params.now ≤ 6 }
+    pub fn new(alloc: Global, params: &'a [Param]) -> BodyScope<'a>
+        requires few { length params.now ≤ MAX_PARAMS }
         requires params { AllByRecursion IsParam params.now }
         ensures { result ≡ spec.start params.entry.now }
     {
-        Reader {
+        BodyScope {
             params,
             names: Vec::new(alloc),
             index: BTreeMap::new(alloc),
@@ -120,13 +122,17 @@ impl<'a> Reader<'a> {
         ensures value { IfOk result (λ operand. operand ≡ spec.operand_or (spec.operand_of self.now text.now)) }
     {
         let Some(operand) = self.operand(text) else {
-            return Err(if starts_with_digit(text) { 11 } else { 9 });
+            return Err(if starts_with_digit(text) {
+                codes::WORD
+            } else {
+                codes::OPERAND
+            });
         };
         if needs_shift(kind, place) && !lookup::is_shift(operand) {
-            return Err(12);
+            return Err(codes::SHIFT);
         }
         if needs_bit(kind, place) && !self.is_bit(operand) {
-            return Err(13);
+            return Err(codes::BIT);
         }
         Ok(operand)
     }
@@ -140,10 +146,10 @@ impl<'a> Reader<'a> {
     {
         if is_identifier(text.as_bytes()) {
             if param_named(self.params, text).is_some() {
-                return Err(10);
+                return Err(codes::REPEATED_NAME);
             }
             if self.value_named(text).is_some() {
-                return Err(10);
+                return Err(codes::REPEATED_NAME);
             }
             return Ok(Target::Value);
         }
@@ -151,17 +157,17 @@ impl<'a> Reader<'a> {
             return Ok(Target::Unused);
         }
         if !is_word_form(text) {
-            return Err(2);
+            return Err(codes::NAME);
         }
         let Some(found) = lookup::output_at(self.params, text) else {
-            return Err(14);
+            return Err(codes::OUTPUT);
         };
         if lookup::is_written(
             self.targets.as_slice(),
             found.param as usize,
             found.word as usize,
         ) {
-            return Err(14);
+            return Err(codes::OUTPUT);
         }
         Ok(Target::Output {
             param: found.param,
@@ -173,7 +179,7 @@ impl<'a> Reader<'a> {
     pub fn add(&mut self, text: &'a str, target: Target) -> Result<(), AllocError>
         requires new { spec.value_named self.old.names text.now ≡ None }
         requires target { target ≡ spec.target_of self.old.params text.now }
-        requires room { length self.old.names < 65536 }
+        requires room { length self.old.names < 2 ^ 16 }
         ensures { OnOk result (self.new ≡ spec.with_result self.old text.entry.now) }
     {
         if !is_identifier(text.as_bytes()) {

@@ -6,7 +6,7 @@ use Rattle.std.proofs.Common.{true, false, None, rules, ap, length}
 use Rattle.base.specs.Identifiers.{is_identifier}
 use Rattle.word_program.specs.Rules.{value_named}
 use Rattle.word_program.proofs.NameLemmas.{known_unnamed, known_more}
-use Rattle.word_program.proofs.reader.Reader.add.Goals as goal
+use Rattle.word_program.proofs.scope.BodyScope.add.Goals as goal
 
 pub invariant_of-self-then-not-is_identifier : goal.invariant_of-self-then-not-is_identifier
 invariant_of-self-then-not-is_identifier c = (
