@@ -26,7 +26,8 @@ pub fn text(
     listing: &Listing,
     inputs: &[u64],
 ) -> Result<String, Status>
-    ensures text { IfOk result (λ text. EmulateMeans inputs.now (files.Program program.now ∷ files.Listing listing.now ∷ [])
+    ensures text { IfOk result (λ text. EmulateMeans inputs.now
+        (files.Program program.now ∷ files.Listing listing.now ∷ [])
         (says (string_bytes text))) }
     ensures refused { IfErr result (RefusesWork (EmulateRefuses inputs.now
         (files.Program program.now ∷ files.Listing listing.now ∷ []))) }

@@ -34,7 +34,8 @@ pub fn eval_file<S: Shelf>(alloc: Global, program: Text, inputs: &[u64], shelf: 
 
 /// The lines of the outputs.
 fn text(alloc: Global, program: &Program, inputs: &[u64]) -> Result<String, Status>
-    ensures text { IfOk result (λ text. EvalMeans inputs.now (files.Program program.now ∷ []) (says (string_bytes text))) }
+    ensures text { IfOk result (λ text. EvalMeans inputs.now (files.Program program.now ∷ [])
+        (says (string_bytes text))) }
     ensures refused { IfErr result (RefusesWork (EvalRefuses inputs.now (files.Program program.now ∷ []))) }
 {
     let words = match eval(alloc, program, inputs) {

@@ -1,3 +1,4 @@
+-- The four pieces of the line, joined.
 use Rattle.std.proofs.Common.{append_assoc}
 use Rattle.command_frame.specs.Status.{program_fault_text}
 use Rattle.command_frame.proofs.status.push_program_fault.Goals as goal

@@ -1,3 +1,4 @@
+-- The five pieces of the line, joined.
 use Rattle.std.proofs.Common.{append_assoc}
 use Rattle.command_frame.specs.Status.{too_long_text}
 use Rattle.command_frame.proofs.status.push_too_long.Goals as goal
