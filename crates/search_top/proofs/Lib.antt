@@ -1,4 +1,3 @@
 pub mod CopyIsCorrect
 pub mod OutputWords
 pub mod StatedOutputs
-pub mod Telling

@@ -1,10 +1,8 @@
-pub mod Words
-pub mod Inputs
 pub mod Outputs
 pub mod Plain
 pub mod Cost
-pub mod Status
-pub mod Emulation
 pub mod Search
-pub mod Loading
-pub mod Command
+pub mod Eval
+pub mod Emulate
+pub mod Show
+pub mod Commands
