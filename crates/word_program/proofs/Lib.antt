@@ -1,3 +1,4 @@
+-- The lemmas of this crate.
 pub mod ParamLemmas
 pub mod NameLemmas
 pub mod MissingLemmas
