@@ -147,15 +147,15 @@ widest-put k d (member l e ms) n p q =
     chosen _ (member k d (member l e ms)) (member l d ms) (member l e (put k d ms)) n (omega arith) (omega arith)
     (omega (arith, widest-put k d ms n p (omega arith)))
 
-abbrev FitsIn : ℕ → Data → Type 0
-FitsIn n d = widest d ≤ n
-
 -- as many items, and no wider ones
 abbrev AreIn : ℕ → ℕ → Items → Type 0
 AreIn c n ds = (count ds ≤ c) × (widest_item ds ≤ n)
 
 abbrev MembersIn : ℕ → Members → Type 0
 MembersIn n ms = widest_member ms ≤ n
+
+abbrev FitsIn : ℕ → Data → Type 0
+FitsIn n d = widest d ≤ n
 
 mutual
   widest-of_json : (j : Json) (n : ℕ) → width j ≤ n → Holds (FitsIn n) (of_json j)

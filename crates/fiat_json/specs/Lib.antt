@@ -1,3 +1,4 @@
+-- The definitions of this crate, one subject a file.
 pub mod Shape
 pub mod Reading
 pub mod Misshapen

@@ -1,6 +1,7 @@
 //! Programs in JSON, in this project's form after Fiat Cryptography's.
 //!
-//! It promises to whoever has a file's bytes the program that they are, or the first fault and its place.
+//! It promises to whoever has a file's bytes the program that they are, or the first fault and its place. Which rules
+//! a document breaks, and where, `specs/Misshapen.antt` says of the whole value; which fault is the first, the laws.
 #![tactic(auto)]
 
 mod bounds;

@@ -1,4 +1,4 @@
-ghost use Rattle.std.specs.Prelude.{◌≡◌, ◌++◌, IfOk, IfErr, codes, decimal, string_bytes};
+ghost use Rattle.std.specs.Prelude.{◌≡◌, ◌≤◌, ◌-◌, ◌^◌, ◌++◌, length, IfOk, IfErr, codes, decimal, string_bytes};
 ghost use Rattle.word_text.specs.declared.fault.Section.TheVariants.{Top};
 ghost use Rattle.word_program.specs.Copy.{IsCopy};
 ghost use Rattle.word_program.specs.Walk.{place_in};
@@ -24,6 +24,7 @@ pub struct Opening {
 
 /// The opening of the program that the bytes are in JSON.
 pub fn opening_of(alloc: Global, bytes: &[u8]) -> Result<Opening, ReadFault>
+    requires { length bytes.now ≤ 2 ^ 32 - 2 }
     ensures ok { IfOk result (λ o. IsOpening bytes.now o.text.items (string_bytes o.line)) }
     ensures err { IfErr result (FailsToOpen bytes.now) }
 {

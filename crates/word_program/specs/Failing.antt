@@ -1,7 +1,8 @@
 -- Which rules the parts of a program break, said of the parts as a whole, and which of these faults is the first.
 -- Each table has a constructor for each rule, with the rule's code. A rule fails only where it has a meaning: so the
 -- number of arguments is only that of an operation that is known, the bounds only those of a datatype that is one,
--- and a shift count or a bit is only asked of an operand. What a text means is defined in Rules.
+-- and a shift count or a bit is only asked of an operand. What a text means is defined in Rules; what it means behind
+-- a fault is of no account, since that fault comes before.
 use Rattle.std.specs.Prelude.{◌≡◌, ℕ, ◌+◌, ◌<◌, List, [], ◌++◌, length, map, take, Some, None, slice_get}
 use Rattle.std.specs.Prelude.{IsTrue, IsFalse, ◌==◌, if◌then◌else◌}
 use Rattle.std.specs.List.{Contains, flat_map}
@@ -147,7 +148,7 @@ pub data Fails (parts : RawProgram) (code : ℕ) (place : Place) : Type 0 where
       → ResultFails (params_of parts) (results_before parts item o number)
       (targets_in parts (results_before parts item o number)) text code
       → Fails parts code place
-  -- a word of an output parameter, which no result is
+  -- a word of an output parameter, which no result is; a return that has no datatype or no bounds has no words
   unwritten : (param word : ℕ) → code ≡ 14 → place ≡ place_in Returns param word
       → IsOutputWord (params_of parts) param word
       → ¬ (Contains (targets_in parts (results_in parts.body)) (targets.Output param word)) → Fails parts code place
