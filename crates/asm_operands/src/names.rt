@@ -4,7 +4,7 @@ ghost use Rattle.asm_operands.specs.Names as spec;
 use x86_instr::{Mnemonic, Reg};
 
 /// The registers of 64 bits, each with its name.
-const REGISTERS: [(Reg, &[u8]); 16] = [
+const REGISTER_NAMES: [(Reg, &[u8]); 16] = [
     (Reg::Rax, b"rax"),
     (Reg::Rcx, b"rcx"),
     (Reg::Rdx, b"rdx"),
@@ -24,7 +24,7 @@ const REGISTERS: [(Reg, &[u8]); 16] = [
 ];
 
 /// The low bytes of the registers, each with its name.
-const BYTE_REGISTERS: [(Reg, &[u8]); 16] = [
+const BYTE_REGISTER_NAMES: [(Reg, &[u8]); 16] = [
     (Reg::Rax, b"al"),
     (Reg::Rcx, b"cl"),
     (Reg::Rdx, b"dl"),
@@ -44,7 +44,7 @@ const BYTE_REGISTERS: [(Reg, &[u8]); 16] = [
 ];
 
 /// The mnemonics, each with its name.
-const MNEMONICS: [(Mnemonic, &[u8]); 40] = [
+const MNEMONIC_NAMES: [(Mnemonic, &[u8]); 40] = [
     (Mnemonic::Mov, b"mov"),
     (Mnemonic::Movzx, b"movzx"),
     (Mnemonic::Lea, b"lea"),
@@ -188,7 +188,7 @@ pub fn mnemonic_name(mnemonic: Mnemonic) -> &'static str
 pub fn register_named(text: &[u8]) -> Option<Reg>
     ensures { result ≡ spec.register_named text.now }
 {
-    named_in(&REGISTERS, text)
+    named_in(&REGISTER_NAMES, text)
 }
 
 /// The register whose low byte has this name.
@@ -196,7 +196,7 @@ pub fn register_named(text: &[u8]) -> Option<Reg>
 pub fn byte_register_named(text: &[u8]) -> Option<Reg>
     ensures { result ≡ spec.byte_register_named text.now }
 {
-    named_in(&BYTE_REGISTERS, text)
+    named_in(&BYTE_REGISTER_NAMES, text)
 }
 
 /// The mnemonic with this name.
@@ -204,7 +204,7 @@ pub fn byte_register_named(text: &[u8]) -> Option<Reg>
 pub fn mnemonic_named(text: &[u8]) -> Option<Mnemonic>
     ensures { result ≡ spec.mnemonic_named text.now }
 {
-    named_in(&MNEMONICS, text)
+    named_in(&MNEMONIC_NAMES, text)
 }
 
 /// The item of a table whose name the text is.

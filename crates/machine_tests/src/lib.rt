@@ -18,3 +18,5 @@ mod runs;
 mod starts;
 #[cfg(test)]
 mod steps;
+#[cfg(test)]
+mod tables;

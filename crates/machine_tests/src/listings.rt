@@ -40,10 +40,7 @@ fn only_a_last_ret_ends_a_listing(rt: HostRuntime) -> Result<(), AllocError> {
     ] {
         match listing_of(rt.alloc(), letters)? {
             Ok(_) => assert!(rt; good, "{letters} make a listing"),
-            Err(fault) => assert!(rt;
-                !good && matches!(fault, ListingFault::NoReturn),
-                "{letters}"
-            ),
+            Err(fault) => assert!(rt; !good && fault == ListingFault::NoReturn, "{letters}"),
         }
     }
     Ok(())
@@ -59,7 +56,7 @@ fn a_listing_has_at_most_65536_lines(rt: HostRuntime) -> Result<(), AllocError> 
         lines.push(line(Instr::Ret))?;
         match Listing::new(rt.alloc(), Text::from_str(rt.alloc(), "f")?, lines) {
             Ok(listing) => assert!(rt; !long && listing.lines().len() == 65536),
-            Err(fault) => assert!(rt; long && matches!(fault, ListingFault::TooLong)),
+            Err(fault) => assert!(rt; long && fault == ListingFault::TooLong),
         }
     }
     Ok(())
@@ -103,7 +100,7 @@ fn a_mnemonic_has_its_own_name(rt: HostRuntime) -> Result<(), Fail> {
         let listing = reading::listing_of(rt.alloc(), text)?;
         let listing = listing.expect(&rt, "the text is an instruction");
         let line = listing.lines().first().expect(&rt, "a listing has a line");
-        assert!(rt; mnemonic_of(&line.instr) as u8 == mnemonic as u8, "{text}");
+        assert!(rt; mnemonic_of(&line.instr) == mnemonic, "{text}");
     }
     Ok(())
 }

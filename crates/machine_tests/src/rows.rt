@@ -84,7 +84,8 @@ pub const ROWS: &[&str] = &[
     "adox rax, rcx | 1 1 3 4 11u | 3 1 3 4 10u",
     "adox rax, rcx | ffffffffffffffff 1 3 4 u00 | 0 1 3 4 u10",
     "adox rax, rcx | ffffffffffffffff ffffffffffffffff 3 4 010 | ffffffffffffffff ffffffffffffffff 3 4 010",
-    "mulx rax, rax, rcx | 5 ffffffffffffffff ffffffffffffffff 4 01u | fffffffffffffffe ffffffffffffffff ffffffffffffffff 4 01u",
+    "mulx rax, rax, rcx | 5 ffffffffffffffff ffffffffffffffff 4 01u | \
+     fffffffffffffffe ffffffffffffffff ffffffffffffffff 4 01u",
     "mulx rax, rcx, [rbx] | 5 6 8000000000000000 2 1u1 | 1 0 8000000000000000 2 1u1",
     "mulx rdx, rax, rcx | 5 4 8000000000000000 4 000 | 0 4 2 4 000",
     "mulx rcx, rdx, rcx | 5 2 ffffffffffffffff 4 uuu | 5 1 fffffffffffffffe 4 uuu",

@@ -7,18 +7,40 @@ use word_program::{EvalFault, Program};
 use x86_instr::Listing;
 use x86_meaning::{State, run};
 
-const COPY1: &str =
-    r#"{"operation":"copy1","returns":[{"name":"out1","datatype":"u64[1]"}],"arguments":[{"name":"arg1","datatype":"u64[1]"}],"body":[{"operation":"=","name":["out1[0]"],"arguments":["arg1[0]"]}]}"#;
+const COPY1: &str = r#"{"operation":"copy1",
+        "returns":[{"name":"out1","datatype":"u64[1]"}],
+        "arguments":[{"name":"arg1","datatype":"u64[1]"}],
+        "body":[{"operation":"=","name":["out1[0]"],"arguments":["arg1[0]"]}]}"#;
 
-const CHAIN2: &str =
-    r#"{"operation":"chain2","returns":[{"name":"out1","datatype":"u64[4]"}],"arguments":[{"name":"arg1","datatype":"u64[4]"},{"name":"arg2","datatype":"u64[4]"}],"body":[{"operation":"addcarryx","name":["out1[0]","x"],"arguments":["0","arg1[0]","arg2[0]"]},{"operation":"addcarryx","name":["out1[2]","y"],"arguments":["0","arg1[2]","arg2[2]"]},{"operation":"addcarryx","name":["out1[1]","_"],"arguments":["x","arg1[1]","arg2[1]"]},{"operation":"addcarryx","name":["out1[3]","_"],"arguments":["y","arg1[3]","arg2[3]"]}]}"#;
+const CHAIN2: &str = r#"{"operation":"chain2",
+        "returns":[{"name":"out1","datatype":"u64[4]"}],
+        "arguments":[{"name":"arg1","datatype":"u64[4]"},{"name":"arg2","datatype":"u64[4]"}],
+        "body":[{"operation":"addcarryx","name":["out1[0]","x"],"arguments":["0","arg1[0]","arg2[0]"]},
+        {"operation":"addcarryx","name":["out1[2]","y"],"arguments":["0","arg1[2]","arg2[2]"]},
+        {"operation":"addcarryx","name":["out1[1]","_"],"arguments":["x","arg1[1]","arg2[1]"]},
+        {"operation":"addcarryx","name":["out1[3]","_"],"arguments":["y","arg1[3]","arg2[3]"]}]}"#;
 
-const CHAINS: &str =
-    "xor rax, rax\nmov rax, [rsi]\nmov rcx, [rsi + 16]\nadcx rax, [rdx]\nadox rcx, [rdx + 16]\nmov [rdi], rax\nmov [rdi + 16], rcx\nmov rax, [rsi + 8]\nmov rcx, [rsi + 24]\nadcx rax, [rdx + 8]\nadox rcx, [rdx + 24]\nmov [rdi + 8], rax\nmov [rdi + 24], rcx";
+const CHAINS: &str = "xor rax, rax\n\
+     mov rax, [rsi]\n\
+     mov rcx, [rsi + 16]\n\
+     adcx rax, [rdx]\n\
+     adox rcx, [rdx + 16]\n\
+     mov [rdi], rax\n\
+     mov [rdi + 16], rcx\n\
+     mov rax, [rsi + 8]\n\
+     mov rcx, [rsi + 24]\n\
+     adcx rax, [rdx + 8]\n\
+     adox rcx, [rdx + 24]\n\
+     mov [rdi + 8], rax\n\
+     mov [rdi + 24], rcx";
 
 // A carry, a word and an array of three words, with bounds, in this order.
-const MIXED: &str =
-    r#"{"operation":"mixed","returns":[{"name":"out1","datatype":"u64[2]"}],"arguments":[{"name":"arg1","datatype":"u1"},{"name":"arg2","datatype":"u64","lbound":"5"},{"name":"arg3","datatype":"u64[3]","ubound":["9","9","9"]}],"body":[{"operation":"=","name":["out1[0]"],"arguments":["arg2"]},{"operation":"=","name":["out1[1]"],"arguments":["arg3[2]"]}]}"#;
+const MIXED: &str = r#"{"operation":"mixed",
+        "returns":[{"name":"out1","datatype":"u64[2]"}],
+        "arguments":[{"name":"arg1","datatype":"u1"},{"name":"arg2","datatype":"u64","lbound":"5"},
+        {"name":"arg3","datatype":"u64[3]","ubound":["9","9","9"]}],
+        "body":[{"operation":"=","name":["out1[0]"],"arguments":["arg2"]},
+        {"operation":"=","name":["out1[1]"],"arguments":["arg3[2]"]}]}"#;
 
 const FILLING: u64 = 0x5a5a_5a5a_5a5a_5a5a;
 

@@ -1,3 +1,2 @@
 pub mod FitsLemmas
-pub mod Equality
 pub mod RegisterList

@@ -16,11 +16,12 @@ use Rattle.x86_instr.specs.declared.line.Line.{Line}
 use Rattle.x86_instr.specs.Listings.{is_ret}
 use Rattle.x86_meaning.specs.declared.state.State.{State}
 use Rattle.x86_meaning.specs.Machine.{step_of, bin_into, un_into, condition_holds, rm_word, src_word}
-use Rattle.x86_meaning.specs.Runs.{Outcome, Ended, Stuck, SameAddresses, run_from}
+use Rattle.x86_meaning.specs.Runs.{Ended, Stuck, SameAddresses, run_from}
+use Rattle.x86_meaning.specs.StepLaws.{last_state}
 use Rattle.x86_meaning.proofs.Memory.{has_put}
 
 -- the states of a step have cells at the same addresses
-abbrev Steps : State → Option State → Type 0
+abbrev pub Steps : State → Option State → Type 0
 Steps s o = IfSome o (λ t. SameAddresses s t)
 
 -- the same cells have the same addresses
@@ -62,7 +63,7 @@ un_steps Neg dst d s = λ address. refl
 un_steps Not dst d s = λ address. refl
 
 -- each instruction
-steps : (i : Instr) (s : State) → Steps s (step_of i s)
+pub steps : (i : Instr) (s : State) → Steps s (step_of i s)
 steps (instrs.Mov dst src) s = mapped s (rm_word s src) _ (λ word. refl)
 steps (instrs.MovImm dst imm) s = λ address. refl
 steps (instrs.Store mem src) s = store_at s _ _ _ refl
@@ -87,29 +88,24 @@ steps (instrs.Cmov cond dst src) s = read_first s (rm_word s src) _
 steps instrs.Clc s = λ address. refl
 steps instrs.Ret s = λ address. refl
 
--- the last state of a run
-abbrev last_of : Outcome → State
-last_of (Ended t) = t
-last_of (Stuck number t) = t
-
 -- a run that goes on behind a step
 goes_on : (lines : List Line) (number : ℕ) (s : State) (o : Option State) → Steps s o
-    → ((t : State) → SameAddresses t (last_of (run_from (number + 1) lines t)))
-    → SameAddresses s (last_of (option_map_or (λ t. run_from (number + 1) lines t) o (Stuck number s)))
+    → ((t : State) → SameAddresses t (last_state (run_from (number + 1) lines t)))
+    → SameAddresses s (last_state (option_map_or (λ t. run_from (number + 1) lines t) o (Stuck number s)))
 goes_on lines number s None k rest address = refl
 goes_on lines number s (Some t) k rest address = rest t address ∙ k address
 
 -- a run from a line
 at_line : (line : Line) (lines : List Line) (number : ℕ) (s : State) (b : Bool)
-    → ((t : State) → SameAddresses t (last_of (run_from (number + 1) lines t)))
-    → SameAddresses s (last_of (if b then Ended s else
+    → ((t : State) → SameAddresses t (last_state (run_from (number + 1) lines t)))
+    → SameAddresses s (last_state (if b then Ended s else
     option_map_or (λ t. run_from (number + 1) lines t) (step_of line.instr s) (Stuck number s)))
 at_line line lines number s true rest address = refl
 at_line line lines number s false rest address =
     goes_on lines number s (step_of line.instr s) (steps line.instr s) rest address
 
 -- the last state of a run has cells at the same addresses as the first
-run_addresses : (lines : List Line) (number : ℕ) (s : State) → SameAddresses s (last_of (run_from number lines s))
+run_addresses : (lines : List Line) (number : ℕ) (s : State) → SameAddresses s (last_state (run_from number lines s))
 run_addresses [] number s address = refl
 run_addresses (line ∷ lines) number s address =
     at_line line lines number s (is_ret line.instr) (run_addresses lines (number + 1)) address
@@ -119,7 +115,7 @@ pub from_between : (lines rest : List Line) (number : ℕ) (s t : State) → run
     → SameAddresses s t
 from_between lines rest number s t e address =
     sym (run_addresses rest number t address)
-    ∙ (ap (λ o. is_some (map.get (last_of o).cells address)) e ∙ run_addresses lines 1 s address)
+    ∙ (ap (λ o. is_some (map.get (last_state o).cells address)) e ∙ run_addresses lines 1 s address)
 
 -- a stuck step leaves the state
 pub stuck_state : (b : Bool) (P Q : Type 0) (s t : State) → b ≡ false → MatchBool b P (Q × (t ≡ s)) → t ≡ s

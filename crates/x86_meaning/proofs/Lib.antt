@@ -18,3 +18,7 @@ pub mod Refusing
 pub mod CopiedWord
 pub mod CorrectCopies
 pub mod CopiedInPlace
+pub mod StepStuck
+pub mod StepReads
+pub mod StepWrites
+pub mod StepKeeps

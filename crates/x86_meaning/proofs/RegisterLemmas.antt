@@ -1,64 +1,23 @@
 -- What the registers hold after a write, and registers as sixteen variables.
-use Rattle.std.proofs.Common.{◌≡◌, ℕ, suc, ◌+◌, ◌<◌, ◌≢◌, List, [], ◌∷◌, length, slice_index_or, refl, sym, ap, ◌∙◌}
-use Rattle.std.proofs.Common.{subst, arith, length-set, get_or-set_same, get_or-set_other}
+use Rattle.std.proofs.Common.{◌≡◌, ◌≢◌, ℕ, suc, ◌+◌, ◌<◌, List, [], ◌∷◌, length, Some, slice_get, sym, ap, ◌∙◌, subst}
+use Rattle.std.proofs.Common.{arith, length-set, get_or-set_same, get_or-set_other}
+use Rattle.std.proofs.lemmas.Option.{slice_get_within}
 use Rattle.x86_instr.specs.declared.operand.Reg.{Reg}
-use Rattle.x86_instr.specs.declared.operand.Reg.TheVariants.{Rax, Rcx, Rdx, Rbx, Rsp, Rbp, Rsi, Rdi, R8, R9, R10, R11}
-use Rattle.x86_instr.specs.declared.operand.Reg.TheVariants.{R12, R13, R14, R15}
+use Rattle.x86_instr.specs.Registers.{number_of, registers}
+use Rattle.x86_instr.proofs.RegisterList.{at_number}
 use Rattle.x86_meaning.specs.declared.state.State.{State}
-use Rattle.x86_instr.specs.Registers.{number_of}
 use Rattle.x86_meaning.specs.Machine.{reg, with_reg}
 
--- ---- numbers of registers
-
--- a register's number is below 16
-pub number_below : (r : Reg) → number_of r < 16
-number_below Rax = omega arith
-number_below Rcx = omega arith
-number_below Rdx = omega arith
-number_below Rbx = omega arith
-number_below Rsp = omega arith
-number_below Rbp = omega arith
-number_below Rsi = omega arith
-number_below Rdi = omega arith
-number_below R8 = omega arith
-number_below R9 = omega arith
-number_below R10 = omega arith
-number_below R11 = omega arith
-number_below R12 = omega arith
-number_below R13 = omega arith
-number_below R14 = omega arith
-number_below R15 = omega arith
-
--- the register with a number
-reg_numbered : ℕ → Reg
-reg_numbered n = slice_index_or (Rax ∷ Rcx ∷ Rdx ∷ Rbx ∷ Rsp ∷ Rbp ∷ Rsi ∷ Rdi ∷ R8 ∷ R9 ∷ R10 ∷ R11 ∷ R12 ∷ R13 ∷ R14
-    ∷ R15 ∷ []) n Rax
-
--- each register is the one with its number
-reg_numbered-number_of : (r : Reg) → reg_numbered (number_of r) ≡ r
-unfolding reg_numbered
-reg_numbered-number_of Rax = refl
-reg_numbered-number_of Rcx = refl
-reg_numbered-number_of Rdx = refl
-reg_numbered-number_of Rbx = refl
-reg_numbered-number_of Rsp = refl
-reg_numbered-number_of Rbp = refl
-reg_numbered-number_of Rsi = refl
-reg_numbered-number_of Rdi = refl
-reg_numbered-number_of R8 = refl
-reg_numbered-number_of R9 = refl
-reg_numbered-number_of R10 = refl
-reg_numbered-number_of R11 = refl
-reg_numbered-number_of R12 = refl
-reg_numbered-number_of R13 = refl
-reg_numbered-number_of R14 = refl
-reg_numbered-number_of R15 = refl
+-- ---- writes
 
 -- no two registers have one number
 pub number_of-injective : (q r : Reg) → number_of q ≡ number_of r → q ≡ r
-number_of-injective q r e = sym (reg_numbered-number_of q) ∙ (ap reg_numbered e ∙ reg_numbered-number_of r)
+number_of-injective q r e =
+    let same : Some q ≡ Some r = sym (at_number q) ∙ (ap (slice_get registers) e ∙ at_number r) in cc
 
--- ---- writes
+-- a register's number is below 16
+number_below : (r : Reg) → number_of r < 16
+number_below r = slice_get_within registers (number_of r) r (at_number r)
 
 -- a register that is written holds the word
 pub reg_written : (r : Reg) (word : ℕ) (s : State) → length s.regs ≡ 16 → reg (with_reg r word s) r ≡ word

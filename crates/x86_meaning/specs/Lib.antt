@@ -9,3 +9,5 @@ pub mod Correct
 pub mod Laws
 pub mod StartLaws
 pub mod Refused
+pub mod Touches
+pub mod StepLaws

@@ -95,7 +95,7 @@ bit b = if b then 1 else 0
 abbrev pub has_bit : ℕ → ℕ → Bool
 has_bit word k = word / 2 ^ k % 2 == 1
 
--- A word read as a signed number is `raised word - 2^63`. So where a sum or a difference of such numbers
+-- A word read as a signed number is `biased word - 2^63`. So where a sum or a difference of such numbers
 -- is `n - 2^64`, it fits 64 bits with its sign exactly where `n` lies from 2^63 to 3 * 2^63 - 1.
 abbrev pub biased : ℕ → ℕ
 biased word = (word + 2 ^ 63) % 2 ^ 64

@@ -22,6 +22,7 @@ mod shifts;
 mod start;
 mod start_laws;
 mod state;
+mod step_laws;
 
 pub use cells::Cells;
 pub use correct_laws::{
@@ -38,3 +39,7 @@ pub use start_laws::{
     other_registers_are_free, starts_meet_the_convention, stated_state_is_start,
 };
 pub use state::State;
+pub use step_laws::{
+    step_depends_on_its_reads, step_leaves_the_rest, step_needs_its_cell_and_flags,
+    steps_keep_states,
+};
