@@ -1,7 +1,7 @@
 -- What a step leaves, and that steps and runs lead from states to states.
 use Rattle.std.proofs.Common.{◌≡◌, ◌≢◌, ℕ, zero, suc, ◌+◌, Bool, true, false, List, [], ◌∷◌, length, Option}
 use Rattle.std.proofs.Common.{Some, None, refl, sym, ap, ◌∙◌, subst, length-set, get_or-set_other}
-use Rattle.std.specs.Prelude.{IfSome, if◌then◌else◌, slice_get, slice_index, slice_set}
+use Rattle.std.specs.Prelude.{IfSome, if◌then◌else◌, slice_index, slice_set}
 use Rattle.std.specs.List.{AllByRecursion}
 use Rattle.std.specs.Option.{option_map_or}
 use Rattle.x86_instr.specs.declared.operand.Reg.{Reg}
@@ -10,8 +10,7 @@ use Rattle.x86_instr.specs.declared.line.Line.{Line}
 use Rattle.x86_instr.specs.Fits.{FitsInstr, FitsLines}
 use Rattle.x86_instr.specs.Flags.{flags_written}
 use Rattle.x86_instr.specs.Listings.{is_ret}
-use Rattle.x86_instr.specs.Registers.{number_of, registers}
-use Rattle.x86_instr.proofs.RegisterList.{at_number}
+use Rattle.x86_instr.specs.Registers.{number_of}
 use Rattle.x86_meaning.specs.declared.state.State.{State}
 use Rattle.x86_meaning.specs.Machine.{IsWord, IsState, step_of}
 use Rattle.x86_meaning.specs.Runs.{SameAddresses, Ended, Stuck, run_from}
