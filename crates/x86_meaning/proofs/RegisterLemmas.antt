@@ -1,5 +1,39 @@
--- Registers as sixteen variables.
-use Rattle.std.proofs.Common.{◌≡◌, ℕ, suc, ◌+◌, List, [], ◌∷◌, length, arith}
+-- What the registers hold after a write, and registers as sixteen variables.
+use Rattle.std.proofs.Common.{◌≡◌, ◌≢◌, ℕ, suc, ◌+◌, ◌<◌, List, [], ◌∷◌, length, Some, slice_get, sym, ap, ◌∙◌, subst}
+use Rattle.std.proofs.Common.{arith, length-set, get_or-set_same, get_or-set_other}
+use Rattle.std.proofs.lemmas.Option.{slice_get_within}
+use Rattle.x86_instr.specs.declared.operand.Reg.{Reg}
+use Rattle.x86_instr.specs.Registers.{number_of, registers}
+use Rattle.x86_instr.proofs.RegisterList.{at_number}
+use Rattle.x86_meaning.specs.declared.state.State.{State}
+use Rattle.x86_meaning.specs.Machine.{reg, with_reg}
+
+-- ---- writes
+
+-- no two registers have one number
+pub number_of-injective : (q r : Reg) → number_of q ≡ number_of r → q ≡ r
+number_of-injective q r e =
+    let same : Some q ≡ Some r = sym (at_number q) ∙ (ap (slice_get registers) e ∙ at_number r) in cc
+
+-- a register's number is below 16
+number_below : (r : Reg) → number_of r < 16
+number_below r = slice_get_within registers (number_of r) r (at_number r)
+
+-- a register that is written holds the word
+pub reg_written : (r : Reg) (word : ℕ) (s : State) → length s.regs ≡ 16 → reg (with_reg r word s) r ≡ word
+reg_written r word s sixteen = get_or-set_same s.regs (number_of r) word 0
+    (subst (λ n. number_of r < n) (sym sixteen) (number_below r))
+
+-- the others hold what they held
+pub reg_other : (q r : Reg) (word : ℕ) (s : State) → q ≢ r → reg (with_reg r word s) q ≡ reg s q
+reg_other q r word s other = get_or-set_other s.regs (number_of r) (number_of q) word 0
+    (λ e. other (number_of-injective q r e))
+
+-- a write leaves as many registers
+pub length-with_reg : (r : Reg) (word : ℕ) (s : State) → length (with_reg r word s).regs ≡ length s.regs
+length-with_reg r word s = length-set s.regs (number_of r) word
+
+-- ---- sixteen variables
 
 -- a list with one word more has a first one
 first_of_more : (P : List ℕ → Type 0) (xs : List ℕ) (n : ℕ) → length xs ≡ suc n

@@ -1,7 +1,7 @@
 -- What a step leaves, and that steps and runs lead from states to states.
 use Rattle.std.proofs.Common.{◌≡◌, ◌≢◌, ℕ, zero, suc, ◌+◌, Bool, true, false, List, [], ◌∷◌, length, Option}
 use Rattle.std.proofs.Common.{Some, None, refl, sym, ap, ◌∙◌, subst, length-set, get_or-set_other}
-use Rattle.std.specs.Prelude.{IfSome, if◌then◌else◌, slice_get, slice_index, slice_set}
+use Rattle.std.specs.Prelude.{IfSome, if◌then◌else◌, slice_index, slice_set}
 use Rattle.std.specs.List.{AllByRecursion}
 use Rattle.std.specs.Option.{option_map_or}
 use Rattle.x86_instr.specs.declared.operand.Reg.{Reg}
@@ -10,8 +10,7 @@ use Rattle.x86_instr.specs.declared.line.Line.{Line}
 use Rattle.x86_instr.specs.Fits.{FitsInstr, FitsLines}
 use Rattle.x86_instr.specs.Flags.{flags_written}
 use Rattle.x86_instr.specs.Listings.{is_ret}
-use Rattle.x86_instr.specs.Registers.{number_of, registers}
-use Rattle.x86_instr.proofs.RegisterList.{at_number}
+use Rattle.x86_instr.specs.Registers.{number_of}
 use Rattle.x86_meaning.specs.declared.state.State.{State}
 use Rattle.x86_meaning.specs.Machine.{IsWord, IsState, step_of}
 use Rattle.x86_meaning.specs.Runs.{SameAddresses, Ended, Stuck, run_from}
@@ -19,6 +18,7 @@ use Rattle.x86_meaning.specs.Touches.{touched, written_address, registers_writte
 use Rattle.x86_meaning.specs.StepLaws.{Leaves, last_state}
 use Rattle.x86_meaning.proofs.Addresses.{steps}
 use Rattle.x86_meaning.proofs.StepReads.{written_alone, other_flags, other_cells}
+use Rattle.x86_meaning.proofs.RegisterLemmas.{number_of-injective}
 use Rattle.x86_meaning.proofs.StepWrites.{Writes, Wrote, Given, wrote}
 
 -- a step that is not stuck wrote what the table says
@@ -26,11 +26,6 @@ wrote_to : (i : Instr) (s t : State) → step_of i s ≡ Some t → Wrote (Given
 wrote_to i s t e = subst (λ o. IfSome o (λ u. Wrote (Given i s) (registers_written i) s u)) e (wrote i s)
 
 -- ---- what it leaves
-
--- no two registers have one number
-number_of-injective : (q r : Reg) → number_of q ≡ number_of r → q ≡ r
-number_of-injective q r e =
-    let same : Some q ≡ Some r = sym (at_number q) ∙ (ap (slice_get registers) e ∙ at_number r) in cc
 
 other_registers : (G : Type 0) (rs : List Reg) (old new : List ℕ) (r : Reg) → Writes G rs old new
     → AllByRecursion (λ q. r ≢ q) rs → slice_index new (number_of r) ≡ slice_index old (number_of r)

@@ -8,7 +8,9 @@
 //! The definitions are in `specs/`: `Machine` (states and steps), `Runs` (a listing's run), `Start`
 //! (the calling convention), `Stated` (one start state) and `Correct`. The instructions follow the Intel
 //! Software Developer's Manual, volume 2, at 64-bit operand size, and the start states the System V AMD64
-//! psABI.
+//! psABI. The functions of the files `laws.rt` and `.._laws.rt` do nothing: their contracts are laws that the
+//! definitions meet, among them that start states are free in what the convention leaves free, and that
+//! listings which break it are not correct.
 #![tactic(auto)]
 
 mod arithmetic;
