@@ -1,19 +1,19 @@
 -- The lists of a document have at most as many items as its widest array, and so as the document has bytes.
-use Rattle.std.proofs.Common.{◌≡◌, ℕ, ◌≤◌, max, List, [], ◌∷◌, length, Option, Some, None, Ordering, Less, Equal}
+use Rattle.std.proofs.Common.{◌≡◌, ℕ, ◌≤◌, List, [], ◌∷◌, length, Option, Some, None, Ordering, Less, Equal}
 use Rattle.std.proofs.Common.{Greater}
-use Rattle.std.proofs.Common.{refl, sym, ◌∙◌, ap, map, arith}
-use Rattle.std.specs.Prelude.{option_map, IfSome}
+use Rattle.std.proofs.Common.{refl, sym, arith}
+use Rattle.std.specs.Prelude.{option_map}
 use Rattle.std.specs.Ordering.{nat_cmp, match_ordering}
 use Rattle.std.specs.Cmp.Lexicographic.{slice_cmp}
 use Rattle.base.specs.Options.{◌>>=◌}
 use Rattle.serde_json.specs.Data.{Data, null, boolean, number, string, array, object, Items, no_items, item}
 use Rattle.serde_json.specs.Data.{Members, no_members, member}
 use Rattle.serde_json.specs.Find.{get, get_member, as_array}
-use Rattle.serde_json.specs.View.{view, items_of, items_view}
+use Rattle.serde_json.specs.View.{items_view}
 use Rattle.serde_json.specs.declared.value.Value.{Value}
 use Rattle.fiat_json.specs.Reading.{Reads}
 use Rattle.fiat_json.specs.Shape.{list_of, list_in}
-use Rattle.fiat_json.specs.Widths.{count, widest, widest_item, widest_member}
+use Rattle.fiat_json.specs.Widths.{count, widest, widest_member}
 use Rattle.fiat_json.proofs.ReadWidths.{widest-read}
 
 length-list_of : (ds : Items) → length (list_of ds) ≡ count ds

@@ -5,6 +5,7 @@ use Rattle.serde_json.specs.Data.{Data, string}
 use Rattle.serde_json.specs.Find.{get}
 use Rattle.word_text.specs.declared.fault.Place.{Place}
 use Rattle.word_text.specs.declared.fault.Section.TheVariants.{Top, Returns, Arguments, Body}
+use Rattle.word_text.specs.declared.codes.TheConstants.{SHAPE}
 use Rattle.word_program.specs.Failing.{Fails}
 use Rattle.word_program.specs.Walk.{place_in}
 use Rattle.fiat_json.specs.Shape.{text_in, list_in, raw_param, raw_op, raw_program}
@@ -31,8 +32,8 @@ pub data Misshapen (d : Data) (place : Place) : Type 0 where
   operation : (items : List Data) (item : ℕ) (v : Data) → list_in (codes "body") d ≡ Some items
       → slice_get items item ≡ Some v → place ≡ place_in Body item 0 → raw_op v ≡ None → Misshapen d place
 
--- The rule with this code fails at this place of the document: that of the form, code 1, or where the whole document
+-- The rule with this code fails at this place of the document: that of the form, or where the whole document
 -- has the form, one of the rules for its parts.
 pub data DocumentFails (d : Data) (code : ℕ) (place : Place) : Type 0 where
-  form : code ≡ 1 → Misshapen d place → DocumentFails d code place
+  form : code ≡ SHAPE → Misshapen d place → DocumentFails d code place
   rule : ((other : Place) → ¬ (Misshapen d other)) → Fails (raw_program d) code place → DocumentFails d code place

@@ -10,6 +10,7 @@ use Rattle.word_text.specs.declared.fault.Section.TheVariants.{Top, Returns, Arg
 use Rattle.word_text.specs.declared.parts.RawParam.{RawParam}
 use Rattle.word_text.specs.declared.parts.RawOp.{RawOp}
 use Rattle.word_text.specs.declared.parts.RawProgram.{RawProgram}
+use Rattle.word_text.specs.declared.codes.TheConstants.{SHAPE}
 use Rattle.base.specs.Options.{◌>>=◌, guard}
 use Rattle.word_text.specs.Texts.{is_overlap}
 use Rattle.word_program.specs.Walk.{RuleFault, place_in, at, walk}
@@ -96,10 +97,10 @@ parts_in d = do
 
 -- the item of this number has another form
 abbrev pub param_fault : Section → Unit {0} → ℕ → Data → Option RuleFault
-param_fault section u n d = at (place_in section n 0) ((1, is_none (raw_param d)) ∷ [])
+param_fault section u n d = at (place_in section n 0) ((SHAPE, is_none (raw_param d)) ∷ [])
 
 abbrev pub op_fault : Unit {0} → ℕ → Data → Option RuleFault
-op_fault u n d = at (place_in Body n 0) ((1, is_none (raw_op d)) ∷ [])
+op_fault u n d = at (place_in Body n 0) ((SHAPE, is_none (raw_op d)) ∷ [])
 
 -- the first item of another form: of the returns, then of the arguments, then of the operations
 abbrev pub parts_fault : Parts → Option RuleFault
@@ -110,7 +111,7 @@ parts_fault p =
 
 -- The first part of the document that has another form. The document as a whole comes first.
 unfoldable pub shape_fault : Data → Option RuleFault
-shape_fault d = option_map_or parts_fault (parts_in d) (Some (1, place_in Top 0 0))
+shape_fault d = option_map_or parts_fault (parts_in d) (Some (SHAPE, place_in Top 0 0))
 
 -- the items read so far and this one
 abbrev pub with_param : List RawParam → Data → List RawParam

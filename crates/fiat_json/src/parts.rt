@@ -1,5 +1,6 @@
 ghost use Rattle.std.specs.Prelude.{◌≡◌, ◌≤◌, ◌-◌, ◌^◌, Some, [], IfOk, IfSome, option_map, fold, length};
 ghost use Rattle.serde_json.specs.View.{view, items_view};
+ghost use Rattle.word_text.specs.declared.codes.TheConstants.{SHAPE};
 ghost use Rattle.word_program.specs.Walk.{Meets, walk, place_in};
 ghost use Rattle.fiat_json.specs.Shape.{list_of, raw_param, raw_op, raw_program, param_fault, op_fault, shape_fault};
 ghost use Rattle.fiat_json.specs.Widths.{widest};
@@ -11,7 +12,7 @@ use std::alloc::{AllocError, Global};
 use word_program::{
     Items, Place, ProgramFault, RawOp, RawOps, RawParam, RawParams, RawProgram, Section, Text,
 };
-use word_text::is_overlap;
+use word_text::{codes, is_overlap};
 
 /// The parts of the document's object.
 #[derive(Clone, Copy, Drop)]
@@ -121,10 +122,10 @@ fn memory(_: AllocError) -> ProgramFault
 
 /// The fault of the form, at an item.
 fn misshapen(section: Section, item: u32) -> ProgramFault
-    ensures { result ≡ ProgramFault.Rule 1 (place_in section item 0) }
+    ensures { result ≡ ProgramFault.Rule SHAPE (place_in section item 0) }
 {
     ProgramFault::Rule {
-        code: 1,
+        code: codes::SHAPE,
         place: Place {
             section,
             item,

@@ -2,6 +2,7 @@
 use Rattle.std.proofs.Common.{◌≡◌, ℕ, ◌+◌, Bool, true, false, ◌&&◌, ◌||◌, cond, List, [], ◌∷◌}
 use Rattle.std.proofs.Common.{map, refl, sym, ◌∙◌, ap, ap₂, subst}
 use Rattle.std.proofs.lemmas.List.Folds.{Any-from_list_any, list_any_at}
+use Rattle.std.proofs.lemmas.Iterator.Adapters.{position_from-zero}
 use Rattle.std.proofs.lemmas.Slice.Eq.{bytes_eq-Decides}
 use Rattle.std.specs.Prelude.{Option, Some, None, is_some, is_none, ◌==◌, slice_index_or}
 use Rattle.std.specs.List.{Contains, list_any, position_from}
@@ -73,16 +74,24 @@ any_named : (params : List Param) (text : List ℕ)
 any_named [] text = refl
 any_named (p ∷ ps) text = ap (λ b. bytes_eq p.name text || b) (any_named ps text)
 
+-- a parameter is found where one has the name
+found_named : (params : List Param) (text : List ℕ)
+    → is_some (param_named params text) ≡ list_any (λ n. bytes_eq n text) (map (λ p. p.name) params)
+found_named params text =
+    ap is_some (position_from-zero (λ p. bytes_eq p.name text) params)
+    ∙ found_any (λ p. bytes_eq p.name text) 0 params
+    ∙ any_named params text
+
 pub found_param : (params : List Param) (text : List ℕ) → is_some (param_named params text) ≡ true
     → Contains (map (λ p. p.name) params) text
 found_param params text found =
     any_contains (λ n. bytes_eq n text) text (λ n. same_text n text) (map (λ p. p.name) params)
-    (sym (any_named params text) ∙ sym (found_any _ 0 params) ∙ found)
+    (sym (found_named params text) ∙ found)
 
 pub param_found : (params : List Param) (text : List ℕ) → Contains (map (λ p. p.name) params) text
     → is_some (param_named params text) ≡ true
 param_found params text w =
-    found_any _ 0 params ∙ any_named params text
+    found_named params text
     ∙ contains_any (λ n. bytes_eq n text) text (same_bytes text) (map (λ p. p.name) params) w
 
 -- the target that is at an output word

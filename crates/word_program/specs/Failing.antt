@@ -12,6 +12,8 @@ use Rattle.word_text.specs.declared.fault.Section.TheVariants.{Top, Returns, Arg
 use Rattle.word_text.specs.declared.parts.RawOp.{RawOp}
 use Rattle.word_text.specs.declared.parts.RawParam.{RawParam}
 use Rattle.word_text.specs.declared.parts.RawProgram.{RawProgram}
+use Rattle.base.specs.declared.limits.TheConstants.{MAX_PARAMS, MAX_OPERATIONS}
+use Rattle.word_text.specs.declared.codes.TheConstants as rules
 use Rattle.base.specs.Identifiers.{is_identifier}
 use Rattle.base.specs.Numbers.{word}
 use Rattle.word_text.specs.Texts.{is_overlap, is_unused, is_word_form, starts_with_digit}
@@ -33,29 +35,31 @@ use Rattle.word_program.specs.Rules.{output_at, target_of, has_arity}
 
 pub data TopFails (parts : RawProgram) (code : ℕ) : Type 0 where
   -- it says whether outputs may overlap inputs, and that is neither `any` nor `none`
-  overlap : (text : List ℕ) → code ≡ 1 → parts.overlap ≡ Some text → IsFalse (is_overlap text) → TopFails parts code
+  overlap : (text : List ℕ) → code ≡ rules.SHAPE → parts.overlap ≡ Some text → IsFalse (is_overlap text)
+      → TopFails parts code
   -- the name of the function is no identifier
-  name : code ≡ 2 → IsFalse (is_identifier parts.name) → TopFails parts code
-  -- there are more than 6 parameters
-  parameters : code ≡ 5 → 6 < length parts.returns + length parts.arguments → TopFails parts code
-  -- there are more than 2,048 operations
-  operations : code ≡ 6 → 2048 < length parts.body → TopFails parts code
+  name : code ≡ rules.NAME → IsFalse (is_identifier parts.name) → TopFails parts code
+  -- there are more parameters than there may be
+  parameters : code ≡ rules.PARAMETER_COUNT → MAX_PARAMS < length parts.returns + length parts.arguments
+      → TopFails parts code
+  -- there are more operations than there may be
+  operations : code ≡ rules.OPERATION_COUNT → MAX_OPERATIONS < length parts.body → TopFails parts code
   -- there is no return
-  returns : code ≡ 15 → length parts.returns ≡ 0 → TopFails parts code
+  returns : code ≡ rules.NO_RETURN → length parts.returns ≡ 0 → TopFails parts code
 
 -- ---- parameters
 
 -- a return or an argument, where earlier parameters have these names
 pub data ParameterFails (section : Section) (names : List (List ℕ)) (param : RawParam) (code : ℕ) : Type 0 where
   -- its name is no identifier
-  name : code ≡ 2 → IsFalse (is_identifier param.name) → ParameterFails section names param code
+  name : code ≡ rules.NAME → IsFalse (is_identifier param.name) → ParameterFails section names param code
   -- its datatype is none
-  datatype : code ≡ 3 → datatype_of section param.datatype ≡ None → ParameterFails section names param code
+  datatype : code ≡ rules.DATATYPE → datatype_of section param.datatype ≡ None → ParameterFails section names param code
   -- it has a datatype, and its bounds are none of that datatype
-  bounds : (d : Datatype) → code ≡ 4 → datatype_of section param.datatype ≡ Some d → bounds_of d param ≡ None
+  bounds : (d : Datatype) → code ≡ rules.BOUNDS → datatype_of section param.datatype ≡ Some d → bounds_of d param ≡ None
       → ParameterFails section names param code
   -- an earlier parameter has its name
-  taken : code ≡ 10 → Contains names param.name → ParameterFails section names param code
+  taken : code ≡ rules.REPEATED_NAME → Contains names param.name → ParameterFails section names param code
 
 -- the parameters of a section
 abbrev pub parameters_of : Section → RawProgram → List RawParam
@@ -75,24 +79,25 @@ parameters_before Body i parts = []
 
 pub data OperationFails (o : RawOp) (code : ℕ) : Type 0 where
   -- there is no operation of this name
-  unknown : code ≡ 7 → kind_named o.operation ≡ None → OperationFails o code
+  unknown : code ≡ rules.OPERATION → kind_named o.operation ≡ None → OperationFails o code
   -- there is one, and it takes another number of arguments or gives another number of results
-  arity : (kind : Kind) → code ≡ 8 → kind_named o.operation ≡ Some kind → IsFalse (has_arity kind o)
+  arity : (kind : Kind) → code ≡ rules.ARITY → kind_named o.operation ≡ Some kind → IsFalse (has_arity kind o)
       → OperationFails o code
 
 -- the argument of an operation with this number, in the scope of what stands before the operation
 pub data ArgumentFails (scope : Scope) (o : RawOp) (number : ℕ) (text : List ℕ) (code : ℕ) : Type 0 where
   -- it does not begin with a digit, and is no operand
-  no_operand : code ≡ 9 → IsFalse (starts_with_digit text) → operand_of scope text ≡ None
+  no_operand : code ≡ rules.OPERAND → IsFalse (starts_with_digit text) → operand_of scope text ≡ None
       → ArgumentFails scope o number text code
   -- it begins with a digit, and is no word
-  no_word : code ≡ 11 → IsTrue (starts_with_digit text) → word text ≡ None → ArgumentFails scope o number text code
+  no_word : code ≡ rules.WORD → IsTrue (starts_with_digit text) → word text ≡ None
+      → ArgumentFails scope o number text code
   -- the operation takes a shift count there, and it is an operand, but no literal from 1 to 63
-  shift : (kind : Kind) (operand : Operand) → code ≡ 12 → kind_named o.operation ≡ Some kind
+  shift : (kind : Kind) (operand : Operand) → code ≡ rules.SHIFT → kind_named o.operation ≡ Some kind
       → IsTrue (needs_shift kind number) → operand_of scope text ≡ Some operand → IsFalse (is_shift operand)
       → ArgumentFails scope o number text code
   -- the operation takes a bit there, and it is an operand, but no bit
-  bit : (kind : Kind) (operand : Operand) → code ≡ 13 → kind_named o.operation ≡ Some kind
+  bit : (kind : Kind) (operand : Operand) → code ≡ rules.BIT → kind_named o.operation ≡ Some kind
       → IsTrue (needs_bit kind number) → operand_of scope text ≡ Some operand
       → IsFalse (is_bit_by scope.params scope.bits operand) → ArgumentFails scope o number text code
 
@@ -100,18 +105,19 @@ pub data ArgumentFails (scope : Scope) (o : RawOp) (number : ℕ) (text : List �
 pub data ResultFails (params : List Param) (names : List (List ℕ)) (ts : List Target) (text : List ℕ) (code : ℕ)
     : Type 0 where
   -- it is no identifier, not `_`, and not of the form `name[i]`
-  form : code ≡ 2 → IsFalse (is_identifier text) → IsFalse (is_unused text) → IsFalse (is_word_form text)
+  form : code ≡ rules.NAME → IsFalse (is_identifier text) → IsFalse (is_unused text) → IsFalse (is_word_form text)
       → ResultFails params names ts text code
   -- it is an identifier that a parameter has
-  parameter : code ≡ 10 → IsTrue (is_identifier text) → Contains (map (λ p. p.name) params) text
+  parameter : code ≡ rules.REPEATED_NAME → IsTrue (is_identifier text) → Contains (map (λ p. p.name) params) text
       → ResultFails params names ts text code
   -- it is an identifier that an earlier result has
-  taken : code ≡ 10 → IsTrue (is_identifier text) → Contains names text → ResultFails params names ts text code
+  taken : code ≡ rules.REPEATED_NAME → IsTrue (is_identifier text) → Contains names text
+      → ResultFails params names ts text code
   -- it is of the form `name[i]`, and no output word
-  no_output : code ≡ 14 → IsTrue (is_word_form text) → output_at params text ≡ None
+  no_output : code ≡ rules.OUTPUT → IsTrue (is_word_form text) → output_at params text ≡ None
       → ResultFails params names ts text code
   -- it is an output word that an earlier result is
-  written : (w : ParamWord) → code ≡ 14 → IsTrue (is_word_form text) → output_at params text ≡ Some w
+  written : (w : ParamWord) → code ≡ rules.OUTPUT → IsTrue (is_word_form text) → output_at params text ≡ Some w
       → Contains ts (targets.Output w.param w.word) → ResultFails params names ts text code
 
 -- the results of operations, in order
@@ -149,7 +155,7 @@ pub data Fails (parts : RawProgram) (code : ℕ) (place : Place) : Type 0 where
       (targets_in parts (results_before parts item o number)) text code
       → Fails parts code place
   -- a word of an output parameter, which no result is; a return that has no datatype or no bounds has no words
-  unwritten : (param word : ℕ) → code ≡ 14 → place ≡ place_in Returns param word
+  unwritten : (param word : ℕ) → code ≡ rules.OUTPUT → place ≡ place_in Returns param word
       → IsOutputWord (params_of parts) param word
       → ¬ (Contains (targets_in parts (results_in parts.body)) (targets.Output param word)) → Fails parts code place
 
@@ -158,7 +164,7 @@ pub data Fails (parts : RawProgram) (code : ℕ) (place : Place) : Type 0 where
 -- the program as a whole, the returns, the arguments, the operations, and last the words that are never written
 abbrev pub turn : ℕ → Section → ℕ
 turn code Top = 0
-turn code Returns = if code == 14 then 4 else 1
+turn code Returns = if code == rules.OUTPUT then 4 else 1
 turn code Arguments = 2
 turn code Body = 3
 
