@@ -1,71 +1,45 @@
 ghost use Rattle.std.specs.Prelude.{◌≡◌, ◌≤◌, length};
-ghost use Rattle.search_top.specs.Cost.{rm_cost, src_cost, instr_cost, cost_of};
+ghost use Rattle.search_top.specs.Cost as spec;
 
-use x86_instr::{Instr, Line, Rm, Src};
-
-/// What reading memory adds to a line's cost.
-const READ: u64 = 4;
-
-/// What writing memory adds to a line's cost.
-const WRITE: u64 = 2;
+use x86_instr::{Access, Instr, Line};
 
 /// The cost of lines, of which there are at most 65,536.
 pub fn cost_of(lines: &[Line]) -> u64
     requires { length lines.now ≤ 65536 }
-    ensures { result ≡ cost_of lines.now }
+    ensures { result ≡ spec.cost_of lines.now }
 {
     let mut cost = 0;
     for line in lines {
-        cost += instr_cost(line.instr);
+        cost += instr_cost(&line.instr);
     }
     cost
 }
 
-fn instr_cost(instr: Instr) -> u64
-    ensures cost { result ≡ instr_cost instr }
+fn instr_cost(instr: &Instr) -> u64
+    ensures cost { result ≡ spec.instr_cost instr.now }
     ensures limit { result ≤ 16 }
 {
+    base_cost(instr) + access_cost(instr.access())
+}
+
+fn base_cost(instr: &Instr) -> u64
+    ensures cost { result ≡ spec.base_cost instr.now }
+    ensures limit { result ≤ 4 }
+{
     match instr {
-        Instr::Store { .. } => 1 + WRITE,
-        Instr::Bin { src, .. } => 1 + src_cost(src),
-        Instr::Mov { src, .. }
-        | Instr::Adcx { src, .. }
-        | Instr::Adox { src, .. }
-        | Instr::Shlx { src, .. }
-        | Instr::Shrx { src, .. }
-        | Instr::Cmov { src, .. } => 1 + rm_cost(src),
-        Instr::Mulx { src, .. } | Instr::Mul { src } => 4 + rm_cost(src),
-        Instr::Imul { src, .. } => 3 + rm_cost(src),
-        Instr::Shrd { .. } => 3,
-        Instr::MovImm { .. }
-        | Instr::Lea { .. }
-        | Instr::Test { .. }
-        | Instr::Un { .. }
-        | Instr::Shl { .. }
-        | Instr::Shr { .. }
-        | Instr::Set { .. }
-        | Instr::Movzx { .. }
-        | Instr::Clc
-        | Instr::Ret => 1,
+        Instr::Mulx { .. } | Instr::Mul { .. } => 4,
+        Instr::Imul { .. } | Instr::Shrd { .. } => 3,
+        _ => 1,
     }
 }
 
-fn rm_cost(rm: Rm) -> u64
-    ensures cost { result ≡ rm_cost rm }
-    ensures limit { result ≤ READ }
+fn access_cost(access: Access) -> u64
+    ensures cost { result ≡ spec.access_cost access }
+    ensures limit { result ≤ 4 }
 {
-    match rm {
-        Rm::Reg(_) => 0,
-        Rm::Mem(_) => READ,
-    }
-}
-
-fn src_cost(src: Src) -> u64
-    ensures cost { result ≡ src_cost src }
-    ensures limit { result ≤ READ }
-{
-    match src {
-        Src::Reg(_) | Src::Imm(_) => 0,
-        Src::Mem(_) => READ,
+    match access {
+        Access::None => 0,
+        Access::Read(_) => 4,
+        Access::Write(_) => 2,
     }
 }
