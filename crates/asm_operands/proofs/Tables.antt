@@ -20,3 +20,6 @@ named_more table text i d inside other = rw (drop-cons table i d, other, add-one
 pub named_none : {T : Type 0} (table : List (T × Bor (List ℕ))) (text : List ℕ) (i : ℕ) → length table ≤ i
     → named_in (rows_of (drop i table)) text ≡ None
 named_none table text i past = rw (drop_all i table past) refl
+
+-- a search row by row
+pub ruleset table_steps = (named_yes, named_more, named_none)

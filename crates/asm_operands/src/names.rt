@@ -208,7 +208,7 @@ pub fn mnemonic_named(text: &[u8]) -> Option<Mnemonic>
 }
 
 /// The item of a table whose name the text is.
-#[tactic(auto, using(crate::proofs::Tables::named_yes, crate::proofs::Tables::named_more, crate::proofs::Tables::named_none))]
+#[tactic(auto, using(crate::proofs::Tables::table_steps))]
 fn named_in<T: Copy>(table: &[(T, &'static [u8])], text: &[u8]) -> Option<T>
     ensures { result ≡ spec.named_in (spec.rows_of table.now) text.now }
 {

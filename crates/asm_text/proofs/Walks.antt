@@ -35,3 +35,6 @@ read_done rest s found n name end is = rw (end, is) refl
 pub read_short : (rest : List ℕ) (s : Stage) (found : List Line) (n : ℕ) → lines rest ≡ [] → body_name s ≡ None
     → read_lines step done (state s found) (lines rest) n ≡ Err n
 read_short rest s found n end none = rw (end, none) refl
+
+-- reading line by line
+pub ruleset reading_steps = (read_step, read_no_item, read_no_move, read_done, read_short)

@@ -71,7 +71,7 @@ fn listing(alloc: Global, found: Found) -> Result<Listing, TextFault>
 }
 
 /// The parts of the listing that a text stands for, or its first faulty line.
-#[tactic(auto, using(crate::proofs::Walks::read_step, crate::proofs::Walks::read_no_item, crate::proofs::Walks::read_no_move, crate::proofs::Walks::read_done, crate::proofs::Walks::read_short), unfolding(crate::specs::Reading::read_text))]
+#[tactic(auto, using(crate::proofs::Walks::reading_steps), unfolding(crate::specs::Reading::read_text))]
 fn read_text(alloc: Global, bytes: &[u8]) -> Result<Found, TextFault>
     requires { length bytes.now ≤ 2 ^ 32 - 2 }
     ensures { Gives (λ found. spec.named_lines found.name found.lines) result (spec.read_text bytes.now) }

@@ -77,10 +77,6 @@ tokens_spell (t ∷ ts) tail fine none =
     spaced_then t.spaced t.text (spell ts tail) ts
     (one_then t.text (spell ts tail) kind ∙ ap (λ us. token false t.text ∷ us) more)
 
-pub spell-append : (ts us : List Token) (tail : List ℕ) → spell (ts ++ us) tail ≡ spell ts (spell us tail)
-spell-append [] us tail = refl
-spell-append (t ∷ ts) us tail = rw (spell-append ts us tail) refl
-
 word_plain : (b : ℕ) → is_word_byte b ≡ true → is_plain b ≡ true
 word_plain b h = grind (arith, nat_tests)
 

@@ -78,3 +78,6 @@ word_fits_by false text n e = numeral_fits 10 text n e
 pub word_fits : (text : List ℕ) (n : ℕ) → word text ≡ Some n → n < 2 ^ 64
 unfolding word
 word_fits text n e = word_fits_by (is_hex text) text n e
+
+-- reading digit by digit
+pub ruleset numeral_steps = (numeral_start, numeral_over, numeral_stop, numeral_step, numeral_end)

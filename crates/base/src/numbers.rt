@@ -22,7 +22,7 @@ fn is_hex(text: &[u8]) -> bool
 
 /// The number that one or more digits of the radix write. None exactly where the text is anything else, or the
 /// number is 2^64 or more.
-#[tactic(auto, using(crate::proofs::Digits::numeral_start, crate::proofs::Digits::numeral_over, crate::proofs::Digits::numeral_stop, crate::proofs::Digits::numeral_step, crate::proofs::Digits::numeral_end))]
+#[tactic(auto, using(crate::proofs::Digits::numeral_steps))]
 pub fn numeral(text: &[u8], radix: u32) -> Option<u64>
     requires low { 1 < radix }
     requires high { radix < 37 }

@@ -1,5 +1,5 @@
--- Which command the words of a command line are. `clap` assigns the words after the first; the rules beyond that are
--- this project's own.
+-- Which command the words of a command line are. The words after the first are assigned as the documentation of the
+-- Rust crate `clap`, version 4, says, by the definition in its specs; the rules beyond that are this project's own.
 use Rattle.std.specs.Prelude.{ℕ, Bool, true, false, not, ◌&&◌, List, [], ◌∷◌, codes, Option, Some, None}
 use Rattle.std.specs.Str.{bytes_eq}
 use Rattle.base.specs.Options.{◌>>=◌, guard}

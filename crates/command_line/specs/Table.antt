@@ -1,5 +1,5 @@
--- The table of the commands: what stands on the line of each, and the command of `clap` that this makes. The words are
--- this project's own, over `clap`'s definition of a command of simple words and options.
+-- The table of the commands: what stands on the line of each, and the command of `clap` that this makes. Source: the
+-- documentation of the Rust crate `clap`, version 4 (`Command`, `Arg`); the table is this project's own.
 use Rattle.std.specs.Prelude.{ℕ, true, List, [], ◌∷◌, map, fold, codes, Option, Some, find}
 use Rattle.std.specs.Str.{bytes_eq}
 use Rattle.clap.specs.Simple.{App, new_app, new_rule, with_rule}

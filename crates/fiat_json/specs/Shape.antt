@@ -10,7 +10,8 @@ use Rattle.word_text.specs.declared.fault.Section.TheVariants.{Top, Returns, Arg
 use Rattle.word_text.specs.declared.parts.RawParam.{RawParam}
 use Rattle.word_text.specs.declared.parts.RawOp.{RawOp}
 use Rattle.word_text.specs.declared.parts.RawProgram.{RawProgram}
-use Rattle.base.specs.Options.{◌>>=◌}
+use Rattle.base.specs.Options.{◌>>=◌, guard}
+use Rattle.word_text.specs.Texts.{is_overlap}
 use Rattle.word_program.specs.Walk.{RuleFault, place_in, at, walk}
 
 -- ---- parts of a JSON value
@@ -71,12 +72,18 @@ raw_op d = do
 
 -- ---- the document
 
--- the function's name, and the items of each section
+-- the text that says whether outputs may overlap inputs, under a key that may be missing: `any` or `none`
+unfoldable pub overlap_said : Option Data → Option (Option (List ℕ))
+overlap_said None = Some None
+overlap_said (Some d) = as_str d >>= λ text. guard (is_overlap text) (Some text)
+
+-- the function's name, the items of each section, and whether outputs may overlap inputs
 pub record Parts : Type 0 where
   pub name : List ℕ
   pub returns : List Data
   pub arguments : List Data
   pub body : List Data
+  pub overlap : Option (List ℕ)
 
 unfoldable pub parts_in : Data → Option Parts
 parts_in d = do
@@ -84,7 +91,8 @@ parts_in d = do
   returns ← list_in (codes "returns") d
   arguments ← list_in (codes "arguments") d
   body ← list_in (codes "body") d
-  Some (record { name = name; returns = returns; arguments = arguments; body = body })
+  overlap ← overlap_said (get (codes "overlap") d)
+  Some (record { name = name; returns = returns; arguments = arguments; body = body; overlap = overlap })
 
 -- the item of this number has another form
 abbrev pub param_fault : Section → Unit {0} → ℕ → Data → Option RuleFault
@@ -117,7 +125,7 @@ raw_parts p = record {
   returns = fold with_param [] p.returns;
   arguments = fold with_param [] p.arguments;
   body = fold with_op [] p.body;
-  overlap = None;
+  overlap = p.overlap;
 }
 
 abbrev pub no_parts : RawProgram

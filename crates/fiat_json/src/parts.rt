@@ -1,8 +1,9 @@
-ghost use Rattle.std.specs.Prelude.{◌≡◌, Some, [], IfOk, option_map, fold};
+ghost use Rattle.std.specs.Prelude.{◌≡◌, ◌≤◌, ◌-◌, ◌^◌, Some, [], IfOk, IfSome, option_map, fold, length};
 ghost use Rattle.serde_json.specs.View.{view, items_view};
 ghost use Rattle.word_program.specs.Walk.{Meets, walk, place_in};
 ghost use Rattle.fiat_json.specs.Shape.{list_of, raw_param, raw_op, raw_program, param_fault, op_fault, shape_fault};
-ghost use Rattle.fiat_json.specs.Shape.{with_param, with_op, parts_in};
+ghost use Rattle.fiat_json.specs.Widths.{widest};
+ghost use Rattle.fiat_json.specs.Shape.{overlap_said, with_param, with_op, parts_in};
 
 use crate::{bounds, values};
 use serde_json::Value;
@@ -10,6 +11,7 @@ use std::alloc::{AllocError, Global};
 use word_program::{
     Items, Place, ProgramFault, RawOp, RawOps, RawParam, RawParams, RawProgram, Section, Text,
 };
+use word_text::is_overlap;
 
 /// The parts of the document's object.
 #[derive(Clone, Copy, Drop)]
@@ -18,23 +20,44 @@ struct Parts<'v> {
     returns: &'v [Value],
     arguments: &'v [Value],
     body: &'v [Value],
+    overlap: Option<&'v str>,
+}
+
+/// The text that says whether outputs may overlap inputs, where the document has one.
+#[tactic(auto, unfolding(crate::specs::Shape::overlap_said))]
+fn overlap_said<'v>(value: Option<&'v Value>) -> Option<Option<&'v str>>
+    ensures { option_map (λ said. option_map (λ s. s.now) said) result
+        ≡ overlap_said (option_map (λ v. view v.now) value.entry) }
+{
+    let Some(value) = value else {
+        return Some(None);
+    };
+    let text = value.as_str()?;
+    if is_overlap(text) {
+        Some(Some(text))
+    } else {
+        None
+    }
 }
 
 #[tactic(auto, unfolding(crate::specs::Shape::parts_in))]
 fn parts_in<'v>(value: &'v Value) -> Option<Parts<'v>>
-    ensures { option_map (λ p. record {
+    ensures parts { option_map (λ p. record {
       name = p.name.now;
       returns = list_of (items_view p.returns.now);
       arguments = list_of (items_view p.arguments.now);
       body = list_of (items_view p.body.now);
-    }) result ≡ parts_in
-        (view value.now) }
+      overlap = option_map (λ s. s.now) p.overlap;
+    }) result ≡ parts_in (view value.now) }
+    ensures widths { IfSome result (λ p. (length p.returns.now ≤ widest (view value.now))
+        × (length p.arguments.now ≤ widest (view value.now)) × (length p.body.now ≤ widest (view value.now))) }
 {
     Some(Parts {
         name: values::text_at(value, "operation")?,
         returns: values::list_at(value, "returns")?,
         arguments: values::list_at(value, "arguments")?,
         body: values::list_at(value, "body")?,
+        overlap: overlap_said(value.get("overlap"))?,
     })
 }
 
@@ -110,15 +133,12 @@ fn misshapen(section: Section, item: u32) -> ProgramFault
     }
 }
 
-/// The parameters of a section. As many items as an item's number cannot count come only from more bytes
-/// than a file has; they are answered as want of memory.
+/// The parameters of a section.
 fn params_in(alloc: Global, section: Section, list: &[Value]) -> Result<RawParams, ProgramFault>
+    requires { length list.now ≤ 2 ^ 32 - 2 }
     ensures fault { Meets result (walk (param_fault section) (λ u d. u) tt 0 (list_of (items_view list.now))) }
     ensures value { IfOk result (λ params. params ≡ fold with_param [] (list_of (items_view list.now))) }
 {
-    if u32::MAX as usize <= list.len() {
-        return Err(ProgramFault::Memory);
-    }
     let mut params = Items::new(alloc);
     let mut item = 0;
     for value in list {
@@ -131,14 +151,12 @@ fn params_in(alloc: Global, section: Section, list: &[Value]) -> Result<RawParam
     Ok(params)
 }
 
-/// The operations, with the same limit on their number.
+/// The operations.
 fn ops_in(alloc: Global, list: &[Value]) -> Result<RawOps, ProgramFault>
+    requires { length list.now ≤ 2 ^ 32 - 2 }
     ensures fault { Meets result (walk op_fault (λ u d. u) tt 0 (list_of (items_view list.now))) }
     ensures value { IfOk result (λ ops. ops ≡ fold with_op [] (list_of (items_view list.now))) }
 {
-    if u32::MAX as usize <= list.len() {
-        return Err(ProgramFault::Memory);
-    }
     let mut ops = Items::new(alloc);
     let mut item = 0;
     for value in list {
@@ -151,9 +169,20 @@ fn ops_in(alloc: Global, list: &[Value]) -> Result<RawOps, ProgramFault>
     Ok(ops)
 }
 
+/// A text of its own, where there is one.
+fn owned(alloc: Global, text: Option<&str>) -> Result<Option<Text>, AllocError>
+    ensures { IfOk result (λ owned. owned ≡ option_map (λ s. s.now) text.entry) }
+{
+    match text {
+        None => Ok(None),
+        Some(text) => Ok(Some(Text::from_str(alloc, text)?)),
+    }
+}
+
 /// The parts of the program that a document has, where it has their form.
 #[tactic(auto, unfolding(crate::specs::Shape::shape_fault, crate::specs::Shape::raw_program))]
 pub fn raw_program(alloc: Global, value: &Value) -> Result<RawProgram, ProgramFault>
+    requires { widest (view value.now) ≤ 2 ^ 32 - 2 }
     ensures fault { Meets result (shape_fault (view value.now)) }
     ensures value { IfOk result (λ parts. parts ≡ raw_program (view value.now)) }
 {
@@ -168,6 +197,6 @@ pub fn raw_program(alloc: Global, value: &Value) -> Result<RawProgram, ProgramFa
         returns,
         arguments,
         body,
-        overlap: None,
+        overlap: owned(alloc, parts.overlap).map_err(memory)?,
     })
 }

@@ -46,7 +46,11 @@ const FILLING: u64 = 0x5a5a_5a5a_5a5a_5a5a;
 
 const RSP: u64 = 0x7fff_fff8;
 
+// No document of a test has more than 1,048,576 bytes.
 fn program_of(alloc: Global, text: &str) -> Option<Program> {
+    if 1_048_576 < text.len() {
+        return None;
+    }
     match read_program(alloc, text.as_bytes()) {
         Ok(program) => Some(program),
         Err(_) => None,

@@ -1,8 +1,9 @@
 //! Documents, and what is read from their bytes.
-use fiat_json::{ReadFault, read_program};
+use crate::reading::read;
+use fiat_json::ReadFault;
 use std::alloc::{AllocError, Global};
 use std::test::Fail;
-use word_program::{Place, Section};
+use word_program::{Operand, Place, Section, Target};
 
 const NOT_JSON: &[&[u8]] = &[
     b"",
@@ -71,7 +72,8 @@ const MISSHAPEN: &[(&str, Section, u32)] = &[
         0,
     ),
     (
-        r#"{"operation":"f","returns":[],"arguments":[{"name":"a","datatype":"b","lbound":"x","ubound":[]},{"name":"a","datatype":"b","ubound":["0",1]}],"body":[]}"#,
+        r#"{"operation":"f","returns":[],"arguments":[{"name":"a","datatype":"b","lbound":"x","ubound":[]},
+            {"name":"a","datatype":"b","ubound":["0",1]}],"body":[]}"#,
         Section::Arguments,
         1,
     ),
@@ -86,12 +88,14 @@ const MISSHAPEN: &[(&str, Section, u32)] = &[
         0,
     ),
     (
-        r#"{"operation":"f","returns":[],"arguments":[],"body":[{"operation":"g","name":[],"arguments":[]},{"operation":"g","name":"x","arguments":[]}]}"#,
+        r#"{"operation":"f","returns":[],"arguments":[],"body":[{"operation":"g","name":[],"arguments":[]},
+            {"operation":"g","name":"x","arguments":[]}]}"#,
         Section::Body,
         1,
     ),
     (
-        r#"{"operation":"f","returns":[],"arguments":[],"body":[{"operation":"g","name":[],"arguments":[]},{"operation":"g","name":[],"arguments":[]},{"operation":"g","name":[],"arguments":[1]}]}"#,
+        r#"{"operation":"f","returns":[],"arguments":[],"body":[{"operation":"g","name":[],"arguments":[]},
+            {"operation":"g","name":[],"arguments":[]},{"operation":"g","name":[],"arguments":[1]}]}"#,
         Section::Body,
         2,
     ),
@@ -103,8 +107,9 @@ const MISSHAPEN: &[(&str, Section, u32)] = &[
 ];
 
 // A document of the form.
-const COPY: &str =
-    r#"{"operation":"copy1","returns":[{"name":"out1","datatype":"u64[1]"}],"arguments":[{"name":"arg1","datatype":"u64[1]"}],"body":[{"operation":"=","name":["out1[0]"],"arguments":["arg1[0]"]}]}"#;
+const COPY: &str = r#"{"operation":"copy1","returns":[{"name":"out1","datatype":"u64[1]"}],
+"arguments":[{"name":"arg1","datatype":"u64[1]"}],"body":[{"operation":"=",
+"name":["out1[0]"],"arguments":["arg1[0]"]}]}"#;
 
 // Where the document has another form if the second text stands in the place of the first one, which is a part of it.
 // With the third text in that place it is accepted.
@@ -113,21 +118,31 @@ const REPLACED: &[&str] = &[
     r#"top 0 # "operation":"copy1", # # "operations":1,"operation":"copy1","#,
     r#"top 0 # "operation":"copy1" # "operation":"copy1","operation":null # "operation":null,"operation":"copy1""#,
     r#"top 0 # "returns":[ # "return":[ # "more":[],"returns":["#,
-    r#"top 0 # [{"name":"out1","datatype":"u64[1]"}] # {"name":"out1","datatype":"u64[1]"} # [{"datatype":"u64[1]","name":"out1"}]"#,
+    r#"top 0 # [{"name":"out1","datatype":"u64[1]"}] # {"name":"out1","datatype":"u64[1]"}
+        # [{"datatype":"u64[1]","name":"out1"}]"#,
     r#"top 0 # "arguments":[{ # "argument":[{ # "more":{},"arguments":[{"#,
     r#"top 0 # [{"name":"arg1","datatype":"u64[1]"}] # null # [{"datatype":"u64[2]","name":"arg1"}]"#,
     r#"top 0 # "body":[ # "bodies":[ # "bodies":[],"body":["#,
     r#"top 0 # "body":[ # "body":"","bodies":[ # "body":"","body":["#,
+    r#"top 0 # "operation":"copy1", # "operation":"copy1","overlap":"some", # "operation":"copy1","overlap":"any","#,
+    r#"top 0 # "operation":"copy1", # "operation":"copy1","overlap":null, # "operation":"copy1","overlap":"none","#,
+    r#"top 0 # "operation":"copy1", # "operation":"copy1","overlap":["any"],
+        # "overlap":0,"overlap":"any","operation":"copy1","#,
+    r#"top 0 # "operation":"copy1", # "operation":"copy1","overlap":"Any", # "operation":"copy1","overlaps":"some","#,
+    r#"top 0 # "operation":"copy1", # "operation":"copy1","overlap":1, # "operation":"copy1","overlap":"\u0061ny","#,
     r#"returns 0 # {"name":"out1", # {"name":["out1"], # {"name":"\u006fut1","#,
     r#"returns 0 # {"name":"out1", # { # {"name":"out2","name":"out1","#,
     r#"returns 0 # {"name":"out1","datatype":"u64[1]"} # {"name":"out1"} # {"datatype":"u64[1]","name":"out1"}"#,
-    r#"returns 0 # {"name":"out1","datatype":"u64[1]"} # {"name":"out1","datatype":1} # {"name":"out1","datatype":null,"datatype":"u64[1]"}"#,
-    r#"returns 0 # {"name":"out1","datatype":"u64[1]"} # ["out1","u64[1]"] # {"name":"out1","datatype":"u64[1]","more":[]}"#,
+    r#"returns 0 # {"name":"out1","datatype":"u64[1]"} # {"name":"out1","datatype":1}
+        # {"name":"out1","datatype":null,"datatype":"u64[1]"}"#,
+    r#"returns 0 # {"name":"out1","datatype":"u64[1]"} # ["out1","u64[1]"]
+        # {"name":"out1","datatype":"u64[1]","more":[]}"#,
     r#"returns 0 # {"name":"out1", # {"name":"out1","lbound":null, # {"name":"out1","lbound":"0","#,
     r#"returns 0 # {"name":"out1", # {"name":"out1","lbound":["0",1], # {"name":"out1","lbound":["0"],"#,
     r#"returns 0 # {"name":"out1", # {"name":"out1","ubound":7, # {"name":"out1","ubound":"7","#,
     r#"arguments 0 # {"name":"arg1", # {"name":null, # {"name":"arg1","name":"arg1","#,
-    r#"arguments 0 # {"name":"arg1","datatype":"u64[1]"} # {"name":"arg1","lbound":"0"} # {"name":"arg1","datatype":"u64[1]","lbound":"0"}"#,
+    r#"arguments 0 # {"name":"arg1","datatype":"u64[1]"} # {"name":"arg1","lbound":"0"}
+        # {"name":"arg1","datatype":"u64[1]","lbound":"0"}"#,
     r#"arguments 0 # {"name":"arg1", # {"name":"arg1","lbound":{}, # {"name":"arg1","lbound":["0x0"],"#,
     r#"arguments 0 # {"name":"arg1", # {"name":"arg1","ubound":[7], # {"name":"arg1","ubound":["7"],"#,
     r#"arguments 0 # {"name":"arg1", # {"name":"arg1","ubound":true, # {"name":"arg1","ubound":"007","#,
@@ -141,7 +156,8 @@ const REPLACED: &[&str] = &[
     r#"body 0 # ["arg1[0]"] # [0] # ["0"]"#,
     r#"body 0 # ,"arguments":["arg1[0]"] # # ,"arguments":null,"arguments":["arg1[0]"]"#,
     r#"body 1 # ["arg1[0]"]} # ["arg1[0]"]},7 # ["arg1[0]"]},{"operation":"=","name":["x"],"arguments":["1"]}"#,
-    r#"body 2 # ["arg1[0]"]} # ["arg1[0]"]},{"operation":"=","name":["x"],"arguments":["1"]},{} # ["arg1[0]"]},{"operation":"=","name":["x"],"arguments":["1"]}"#,
+    r#"body 2 # ["arg1[0]"]} # ["arg1[0]"]},{"operation":"=","name":["x"],"arguments":["1"]},{}
+        # ["arg1[0]"]},{"operation":"=","name":["x"],"arguments":["1"]}"#,
 ];
 
 // The same program, spelled in other ways: the order of the keys, keys that mean nothing, a key that stands
@@ -152,9 +168,15 @@ const COPIES: &[&str] = &[
       "arguments" : [ { "datatype" : "u64[1]", "name" : "arg1" } ],
       "returns" : [ { "datatype" : "u64[1]", "name" : "out1" } ], "operation" : "copy1" }
 "#,
-    r#"{"operation":"copy1","of":[null],"returns":[{"name":"out1","datatype":"u64[1]","datatypes":1}],"arguments":[{"name":"arg1","datatype":"u64[1]"}],"body":[{"operation":"=","name":["out1[0]"],"arguments":["arg1[0]"],"parameters":{}}]}"#,
-    r#"{"operation":1,"returns":[{"name":"out1","datatype":"u64[1]"}],"returns":[{"name":"out1","name":"out1","datatype":"u64[1]"}],"arguments":7,"arguments":[{"name":"arg1","datatype":"u64[1]"}],"body":[{"operation":"=","name":["out1[0]"],"arguments":["arg1[0]"]}],"operation":"\u0063opy1"}"#,
-    r#"{"operation":"copy1","returns":[{"name":"out1","datatype":"u64[1]","lbound":"0","ubound":["0xffffffffffffffff"]}],"arguments":[{"name":"arg1","datatype":"u64[1]","lbound":["0x0"],"ubound":"18446744073709551615"}],"body":[{"operation":"=","name":["out1[0]"],"arguments":["arg1[0]"]}]}"#,
+    r#"{"operation":"copy1","of":[null],"returns":[{"name":"out1","datatype":"u64[1]","datatypes":1}],
+        "arguments":[{"name":"arg1","datatype":"u64[1]"}],"body":[{"operation":"=","name":["out1[0]"],
+        "arguments":["arg1[0]"],"parameters":{}}]}"#,
+    r#"{"operation":1,"returns":[{"name":"out1","datatype":"u64[1]"}],"returns":[{"name":"out1","name":"out1",
+        "datatype":"u64[1]"}],"arguments":7,"arguments":[{"name":"arg1","datatype":"u64[1]"}],
+        "body":[{"operation":"=","name":["out1[0]"],"arguments":["arg1[0]"]}],"operation":"\u0063opy1"}"#,
+    r#"{"operation":"copy1","returns":[{"name":"out1","datatype":"u64[1]","lbound":"0",
+        "ubound":["0xffffffffffffffff"]}],"arguments":[{"name":"arg1","datatype":"u64[1]","lbound":["0x0"],
+        "ubound":"18446744073709551615"}],"body":[{"operation":"=","name":["out1[0]"],"arguments":["arg1[0]"]}]}"#,
 ];
 
 fn fault(code: u8, section: Section, item: u32, inner: u32) -> ReadFault {
@@ -171,10 +193,7 @@ fn fault(code: u8, section: Section, item: u32, inner: u32) -> ReadFault {
 #[test]
 fn bytes_that_are_no_json(rt: HostRuntime) {
     for bytes in NOT_JSON {
-        assert_eq!(rt;
-            read_program(rt.alloc(), bytes).err(),
-            Some(ReadFault::NotJson)
-        );
+        assert_eq!(rt; read(rt.alloc(), bytes).err(), Some(ReadFault::NotJson));
     }
 }
 
@@ -182,7 +201,7 @@ fn bytes_that_are_no_json(rt: HostRuntime) {
 fn documents_of_another_form(rt: HostRuntime) {
     for (document, section, item) in MISSHAPEN {
         assert_eq!(rt;
-            read_program(rt.alloc(), document.as_bytes()).err(),
+            read(rt.alloc(), document.as_bytes()).err(),
             Some(fault(1, *section, *item, 0)),
             "{document}"
         );
@@ -199,7 +218,7 @@ fn replaced(alloc: Global, part: &str, other: &str) -> Result<String, AllocError
 
 // The fault of a document, or that there is none.
 fn answer(alloc: Global, document: &str) -> Result<String, AllocError> {
-    match read_program(alloc, document.as_bytes()) {
+    match read(alloc, document.as_bytes()) {
         Ok(_) => String::from_str(alloc, "accepted"),
         Err(ReadFault::Program { code, place }) => {
             let (section, item, inner) = (name_of(place.section), place.item, place.inner);
@@ -252,7 +271,7 @@ fn one_part_of_another_form(rt: HostRuntime) -> Result<(), Fail> {
 #[test]
 fn one_program_in_many_spellings(rt: HostRuntime) -> Result<(), Fail> {
     for document in COPIES {
-        let program = read_program(rt.alloc(), document.as_bytes())?;
+        let program = read(rt.alloc(), document.as_bytes())?;
         assert_eq!(rt; program.name().as_str(), "copy1", "{document}");
         assert_eq!(rt; program.params().len(), 2, "{document}");
         assert_eq!(rt; program.ops().len(), 1, "{document}");
@@ -264,15 +283,71 @@ fn one_program_in_many_spellings(rt: HostRuntime) -> Result<(), Fail> {
 #[test]
 fn faults_of_the_program(rt: HostRuntime) {
     let document =
-        r#"{"operation":"9","returns":[],"arguments":[{"name":"x","datatype":"u64"}],"body":[{"operation":"g","name":[],"arguments":[]}]}"#;
+        r#"{"operation":"9","returns":[],"arguments":[{"name":"x","datatype":"u64"}],"body":[{"operation":"g",
+            "name":[],"arguments":[]}]}"#;
     assert_eq!(rt;
-        read_program(rt.alloc(), document.as_bytes()).err(),
+        read(rt.alloc(), document.as_bytes()).err(),
         Some(fault(2, Section::Top, 0, 0))
     );
     let document =
-        r#"{"operation":"f","returns":[{"name":"o","datatype":"u64[2]"}],"arguments":[{"name":"x","datatype":"u64"}],"body":[{"operation":"=","name":["o[0]"],"arguments":["x"]},{"operation":"cmovznz","name":["y"],"arguments":["x","x","x"]}]}"#;
+        r#"{"operation":"f","returns":[{"name":"o","datatype":"u64[2]"}],"arguments":[{"name":"x",
+            "datatype":"u64"}],"body":[{"operation":"=","name":["o[0]"],"arguments":["x"]},
+            {"operation":"cmovznz","name":["y"],"arguments":["x","x","x"]}]}"#;
     assert_eq!(rt;
-        read_program(rt.alloc(), document.as_bytes()).err(),
+        read(rt.alloc(), document.as_bytes()).err(),
         Some(fault(13, Section::Body, 1, 1))
     );
+}
+
+// A document of the form with this many operations, of which the last one writes the output.
+fn document_of(alloc: Global, operations: u32) -> Result<String, AllocError> {
+    let (before, last) = match COPY.split_once("{\"operation\":\"=\"") {
+        Some(parts) => parts,
+        None => ("", ""),
+    };
+    let mut text = String::from_str(alloc, before)?;
+    for _operation in 1..operations {
+        text.push_str("{\"operation\":\"=\",\"name\":[\"_\"],\"arguments\":[\"0\"]},")?;
+    }
+    text.push_str("{\"operation\":\"=\"")?;
+    text.push_str(last)?;
+    Ok(text)
+}
+
+#[test]
+fn as_many_operations_as_a_program_has(rt: HostRuntime) -> Result<(), Fail> {
+    let most = document_of(rt.alloc(), 2048)?;
+    assert_eq!(rt; answer(rt.alloc(), most.as_str())?.as_str(), "accepted");
+    let more = document_of(rt.alloc(), 2049)?;
+    assert_eq!(rt; answer(rt.alloc(), more.as_str())?.as_str(), "P06 top 0 0");
+    Ok(())
+}
+
+// The program of `examples/swap2.json`.
+const SWAP: &str =
+    r#"{"operation":"swap2","overlap":"any","returns":[{"name":"out1","datatype":"u64[2]"}],
+"arguments":[{"name":"arg1","datatype":"u64[2]"}],"body":[
+{"operation":"=","name":["out1[0]"],"arguments":["arg1[1]"]},
+{"operation":"=","name":["out1[1]"],"arguments":["arg1[0]"]}]}"#;
+
+#[test]
+fn a_swap_whose_output_may_overlap_its_input(rt: HostRuntime) -> Result<(), Fail> {
+    let program = read(rt.alloc(), SWAP.as_bytes())?;
+    assert!(rt; program.overlap());
+    assert_eq!(rt; program.ops().len(), 2);
+    for (number, op) in program.ops().iter().enumerate() {
+        let target = Target::Output {
+            param: 0,
+            word: number as u8,
+        };
+        let operand = Operand::Input {
+            param: 1,
+            word: 1 - number as u8,
+        };
+        assert!(rt; op.targets.items().first() == Some(&target));
+        assert!(rt; op.args.items().first() == Some(&operand));
+    }
+    let program = read(rt.alloc(), COPY.as_bytes())?;
+    assert!(rt; !program.overlap());
+    Ok(())
 }

@@ -6,3 +6,5 @@
 mod documents;
 #[cfg(test)]
 mod ranges;
+#[cfg(test)]
+mod reading;

@@ -1,6 +1,6 @@
 //! The intervals of each operation's results, by hand.
+use crate::reading::read;
 use bounds::intervals;
-use fiat_json::read_program;
 use std::alloc::{AllocError, Global};
 use std::test::Fail;
 
@@ -161,16 +161,16 @@ fn document(alloc: Global, row: &Row) -> Result<String, AllocError> {
     let first = format!(in alloc;
         "{{\"operation\":\"{operation}\",\"name\":[{results}],\"arguments\":[{arguments}]}}"
     )?;
-    format!(in alloc;
-        "{{\"operation\":\"f\",\"returns\":[{{\"name\":\"out1\",\"datatype\":\"u64[1]\"}}],\"arguments\":[{c},{a},{b}],\"body\":[{first},{{\"operation\":\"=\",\"name\":[\"out1[0]\"],\"arguments\":[\"x\"]}}]}}"
-    )
+    let head = "{\"operation\":\"f\",\"returns\":[{\"name\":\"out1\",\"datatype\":\"u64[1]\"}]";
+    let last = "{\"operation\":\"=\",\"name\":[\"out1[0]\"],\"arguments\":[\"x\"]}";
+    format!(in alloc; "{head},\"arguments\":[{c},{a},{b}],\"body\":[{first},{last}]}}")
 }
 
 #[test]
 fn results_lie_between(rt: HostRuntime) -> Result<(), Fail> {
     for row in ROWS {
         let text = document(rt.alloc(), row)?;
-        let program = read_program(rt.alloc(), text.as_bytes())?;
+        let program = read(rt.alloc(), text.as_bytes())?;
         let list = intervals(rt.alloc(), &program)?;
         let operation = row.0;
         assert_eq!(rt; list.len(), row.6.len() + 1, "{operation}");

@@ -93,25 +93,31 @@ module _ (name output input : List ℕ) (words index : ℕ) (within : index < wo
                     on_load (later cf of zf r0 r1 rsp r11 c2) _ (address_of first 24 Frame 1) r6 _ _ (omega arith)
                         (get_put_same c1 (address_of first 24 Frame 1) r6) (
                           k2,
-                          on_load (later cf of zf r0 r6 rsp r11 c2) _ (address_of first 24 (Array 1) index) w _ _ (omega arith)
+                          on_load (later cf of zf r0 r6 rsp r11 c2) _ (address_of first 24 (Array 1) index) w _ _
+                              (omega arith)
                               (input_kept program lines inputs first start refl c2 1 index k2 there) (
                                 k2,
                                 (
                                   k2,
-                                  on_load (later cf of zf w w rsp r11 c2) _ (address_of first 24 Frame 0) r7 _ _ (omega arith) held0 (
+                                  on_load (later cf of zf w w rsp r11 c2) _ (address_of first 24 Frame 0) r7 _ _
+                                      (omega arith) held0 (
                                     k2,
-                                    on_store (later cf of zf w w rsp r7 c2) _ (address_of first 24 (Array 0) 0) w _ (omega arith)
-                                        (written_there program lines inputs first start c2 (Array 0) 0 k2 (omega arith)) (
+                                    on_store (later cf of zf w w rsp r7 c2) _ (address_of first 24 (Array 0) 0) w _
+                                        (omega arith)
+                                        (written_there program lines inputs first start c2 (Array 0) 0 k2
+                                            (omega arith)) (
                                           k3,
                                           record {
-                                            outputs = one_output (λ param word. map.get c3 (address_of first 24 (Array param) word) ≡ Some
+                                            outputs = one_output (λ param word. map.get c3
+                                                (address_of first 24 (Array param) word) ≡ Some
                                                 (output_word program inputs param word)) output input words
                                                 (get_put_same c2 (address_of first 24 (Array 0) 0) w);
                                             registers = (
                                               refl {a = r3},
                                               (
                                                 refl {a = r5},
-                                                (refl {a = r12}, (refl {a = r13}, (refl {a = r14}, (refl {a = r15}, (omega arith, tt))))),
+                                                (refl {a = r12}, (refl {a = r13},
+                                                    (refl {a = r14}, (refl {a = r15}, (omega arith, tt))))),
                                               ),
                                             );
                                             keeps = k3;

@@ -1,4 +1,4 @@
+-- The lemmas of this crate.
 pub mod CopyIsCorrect
 pub mod OutputWords
 pub mod StatedOutputs
-pub mod Telling

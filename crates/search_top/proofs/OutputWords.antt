@@ -1,7 +1,7 @@
 -- The words in the cells of an array, one after the other.
 use Rattle.std.proofs.Common.{◌≡◌, ℕ, suc, ◌+◌, ◌*◌, List, [], ◌∷◌, ◌++◌, refl, arith, append_assoc, rules}
 use Rattle.x86_meaning.specs.Machine.{Cells}
-use Rattle.search_top.specs.Emulation.{cell_word, words_at}
+use Rattle.search_top.specs.Emulate.{cell_word, words_at}
 
 -- no cells have no words
 pub words_none : (cells : Cells) (address : ℕ) (before : List ℕ) → before ≡ before ++ words_at cells address 0

@@ -14,7 +14,7 @@ use Rattle.x86_meaning.specs.declared.state.State.{State}
 use Rattle.x86_meaning.specs.Runs.{SameAddresses}
 use Rattle.x86_meaning.specs.Start.{IsStart, Array, output_words, param_reg}
 use Rattle.x86_meaning.specs.Stated.{IsStated, array_address, role_word, stated_reg}
-use Rattle.search_top.specs.Emulation.{HasOutputs}
+use Rattle.search_top.specs.Emulate.{HasOutputs}
 
 -- the words of a parameter that may be missing, as an output and as an array, and what its register holds
 abbrev words_at : Option Param → ℕ

@@ -1,10 +1,9 @@
-pub mod Words
-pub mod Inputs
+-- The definitions of this crate, in the order to read them.
 pub mod Outputs
 pub mod Plain
 pub mod Cost
-pub mod Status
-pub mod Emulation
 pub mod Search
-pub mod Loading
-pub mod Command
+pub mod Eval
+pub mod Emulate
+pub mod Show
+pub mod Commands

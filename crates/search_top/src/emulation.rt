@@ -1,12 +1,15 @@
-ghost use Rattle.std.specs.Prelude.{◌≡◌, ◌++◌, ◌<◌, ◌≤◌, IfOk, IfErr, OnOk, length, string_bytes};
+ghost use Rattle.std.specs.Prelude.{◌≡◌, [], ◌∷◌, ◌++◌, ◌<◌, ◌≤◌, IfOk, IfErr, OnOk, length, string_bytes};
 ghost use Rattle.std.specs.List.{AllByRecursion};
 ghost use Rattle.word_program.specs.Accepted.{IsParam};
 ghost use Rattle.x86_meaning.specs.Stated.{array_address};
 ghost use Rattle.search_top.specs.Outputs as spec;
-ghost use Rattle.search_top.specs.Emulation.{RefusesRun, Tells, cell_word, words_at, words_from};
+ghost use Rattle.command_frame.specs.Ends.{RefusesWork};
+ghost use Rattle.command_frame.specs.Files as files;
+ghost use Rattle.command_frame.specs.Writes.{says};
+ghost use Rattle.search_top.specs.Emulate.{EmulateMeans, EmulateRefuses, cell_word, words_at, words_from};
 
 use crate::outputs::{is_output, output_lines};
-use crate::status::Status;
+use command_frame::Status;
 use std::alloc::{AllocError, Global};
 use word_program::{EvalFault, Param, Program};
 use x86_instr::Listing;
@@ -17,14 +20,17 @@ const ARRAY_STEP: u64 = 65_536;
 
 /// The lines of the words that a listing leaves in the output arrays, when it runs from the stated start state
 /// for the program on these inputs, or the status of the command that wants them.
-pub fn emulated_lines(
+pub fn text(
     alloc: Global,
     program: &Program,
     listing: &Listing,
     inputs: &[u64],
 ) -> Result<String, Status>
-    ensures lines { IfOk result (λ lines. Tells program.now listing.now.lines inputs.now (string_bytes lines)) }
-    ensures refused { IfErr result (RefusesRun program.now listing.now.lines inputs.now) }
+    ensures text { IfOk result (λ text. EmulateMeans inputs.now
+        (files.Program program.now ∷ files.Listing listing.now ∷ [])
+        (says (string_bytes text))) }
+    ensures refused { IfErr result (RefusesWork (EmulateRefuses inputs.now
+        (files.Program program.now ∷ files.Listing listing.now ∷ []))) }
 {
     let mut state = match State::start(alloc, program, listing, inputs) {
         Ok(state) => state,

@@ -1,51 +1,51 @@
-ghost use Rattle.std.specs.Prelude.{◌≡◌, ℕ, List, codes};
-ghost use Rattle.io_ports.specs.Shelf.{Rose, Stays};
-ghost use Rattle.search_top.specs.Search.{IfWriteFault, OnRefusal};
-ghost use Rattle.search_top.specs.Command.{EvalAnswers, OneLoad};
+ghost use Rattle.std.specs.Prelude.{◌≡◌, [], ◌∷◌, IfOk, IfErr, string_bytes};
+ghost use Rattle.command_frame.specs.Change.{change_of};
+ghost use Rattle.command_frame.specs.Ends.{RefusesWork};
+ghost use Rattle.command_frame.specs.Files as files;
+ghost use Rattle.command_frame.specs.Writes.{says};
+ghost use Rattle.search_top.specs.Commands.{EndsAs};
+ghost use Rattle.search_top.specs.Eval.{EvalMeans, EvalRefuses};
 
-use crate::loading::load_program;
 use crate::outputs::output_lines;
-use crate::status::Status;
+use base::Text;
+use command_line::Command;
+use command_frame::{Status, load_program, output_name, say_text};
 use io_ports::Shelf;
 use std::alloc::Global;
-use word_program::{EvalFault, Text, eval};
+use word_program::{EvalFault, Program, eval};
 
 /// Says the outputs of the program in a file on these inputs.
-pub fn eval_file<S: Shelf>(alloc: Global, program: &str, inputs: &[u64], shelf: &mut S) -> Status
-    ensures answer { EvalAnswers (record {
-      held = S.held shelf.old;
-      said = S.said shelf.old;
-      said' = S.said shelf.new;
-      faults = S.faults shelf.old;
-      faults' = S.faults shelf.new;
-    }) program.now inputs.now result }
-    ensures write_fault { IfWriteFault result (λ n. (n ≡ codes "-") × Rose (S.faults shelf.old) (S.faults shelf.new)) }
-    ensures calls { OneLoad result (S.calls shelf.old) (S.calls shelf.new) }
-    ensures refusal_files { OnRefusal result ((n : List ℕ) → S.held shelf.new n ≡ S.held shelf.old n) }
-    ensures refusal_output { OnRefusal result (S.said shelf.new ≡ S.said shelf.old) }
-    ensures files { (n : List ℕ) → Stays (S.held shelf.old n) (S.held shelf.new n) }
+pub fn eval_file<S: Shelf>(alloc: Global, program: Text, inputs: &[u64], shelf: &mut S) -> Status
+    ensures { EndsAs (Command.Eval program inputs.now)
+        (change_of S.held S.said S.calls S.faults shelf.old shelf.new) result }
 {
-    let Ok(label) = Text::from_str(alloc, program) else {
+    let Ok(output) = output_name(alloc) else {
         return Status::OutOfMemory;
     };
-    let Ok(output) = Text::from_str(alloc, "-") else {
-        return Status::OutOfMemory;
-    };
-    let program = match load_program(alloc, program, label, shelf) {
+    let program = match load_program(alloc, program, shelf) {
         Ok(program) => program,
         Err(status) => return status,
     };
-    let words = match eval(alloc, &program, inputs) {
-        Ok(words) => words,
-        Err(EvalFault::Count { given, wanted }) => return Status::Inputs { given, wanted },
-        Err(EvalFault::OutOfBounds { word }) => return Status::OutOfBounds(word),
-        Err(EvalFault::Memory) => return Status::OutOfMemory,
-    };
-    let Ok(lines) = output_lines(alloc, program.params(), words.as_slice()) else {
-        return Status::OutOfMemory;
-    };
-    if shelf.say(lines.as_bytes()).is_err() {
-        return Status::WriteFault(output);
+    match text(alloc, &program, inputs) {
+        Ok(text) => say_text(text.as_bytes(), output, shelf),
+        Err(status) => status,
     }
-    Status::Ok
+}
+
+/// The lines of the outputs.
+fn text(alloc: Global, program: &Program, inputs: &[u64]) -> Result<String, Status>
+    ensures text { IfOk result (λ text. EvalMeans inputs.now (files.Program program.now ∷ [])
+        (says (string_bytes text))) }
+    ensures refused { IfErr result (RefusesWork (EvalRefuses inputs.now (files.Program program.now ∷ []))) }
+{
+    let words = match eval(alloc, program, inputs) {
+        Ok(words) => words,
+        Err(EvalFault::Count { given, wanted }) => return Err(Status::Inputs { given, wanted }),
+        Err(EvalFault::OutOfBounds { word }) => return Err(Status::OutOfBounds(word)),
+        Err(EvalFault::Memory) => return Err(Status::OutOfMemory),
+    };
+    match output_lines(alloc, program.params(), words.as_slice()) {
+        Ok(text) => Ok(text),
+        Err(_) => Err(Status::OutOfMemory),
+    }
 }

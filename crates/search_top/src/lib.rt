@@ -1,7 +1,11 @@
 //! The commands: what each does with its files, and the status that it ends with.
 //!
-//! [`search`] turns a program into a proved assembly listing. Its contract is the promise of the whole
-//! tool; the words that it cites are in `specs/`.
+//! [`search`] turns a program into a proved assembly listing. Its contract is the promise of the whole tool.
+//! [`command`] is every other command. How all of them end is one relation of `command_frame`, over the tables of
+//! `specs/Commands.antt`: which calls a command makes, what it means, and why it is refused.
+//!
+//! Each command is three parts: its loads, the pure work on what was read, and one write. A further one is a file of
+//! code, a file of definitions, a row in each table, and an arm in [`command`].
 #![tactic(auto)]
 
 mod commands;
@@ -9,18 +13,14 @@ mod cost;
 mod emulate_command;
 mod emulation;
 mod eval_command;
-mod inputs;
 mod laws;
-mod loading;
 mod opening;
 mod outputs;
 mod plain;
 mod search_command;
 mod show_command;
-mod status;
-mod words;
 
+pub use command_frame::{Status, exit_of, line_of};
 pub use commands::command;
 pub use laws::plain_listing_is_correct;
 pub use search_command::search;
-pub use status::{Status, exit_of, line_of};

@@ -1,15 +1,17 @@
-ghost use Rattle.std.specs.Prelude.{◌≡◌, ◌++◌, IfOk, IfErr, codes, decimal, string_bytes};
+ghost use Rattle.std.specs.Prelude.{◌≡◌, [], ◌∷◌, ◌++◌, IfOk, IfErr, codes, decimal, string_bytes};
 ghost use Rattle.word_text.specs.declared.fault.Section.TheVariants.{Top};
 ghost use Rattle.word_program.specs.Copy.{IsCopy};
 ghost use Rattle.word_program.specs.Walk.{place_in};
 ghost use Rattle.x86_meaning.specs.Correct.{IsCorrect};
-ghost use Rattle.search_top.specs.Plain.{plain_lines, plain_listing};
 ghost use Rattle.asm_text.specs.Assembly.{text_of};
-ghost use Rattle.search_top.specs.Search.{IsOpening, FailsToOpen, ReadsBack, opening_text};
+ghost use Rattle.command_frame.specs.Ends.{RefusesWork};
+ghost use Rattle.command_frame.specs.Files as files;
+ghost use Rattle.search_top.specs.Plain.{plain_lines, plain_listing};
+ghost use Rattle.search_top.specs.Search.{ReadsBack, SearchMeans, SearchRefuses, opening_text};
 
 use crate::{cost, plain};
 use asm_text::write;
-use fiat_json::ReadFault;
+use command_frame::Status;
 use std::alloc::{AllocError, Global};
 use word_program::{Place, Program, Section, copy_form};
 
@@ -22,36 +24,31 @@ pub struct Opening {
     pub line: String,
 }
 
-/// The opening of the program that the bytes are in JSON.
-pub fn opening_of(alloc: Global, bytes: &[u8]) -> Result<Opening, ReadFault>
-    ensures ok { IfOk result (λ o. IsOpening bytes.now o.text.items (string_bytes o.line)) }
-    ensures err { IfErr result (FailsToOpen bytes.now) }
+/// The opening of the program, or the status of the search that wants it.
+pub fn opening_of(alloc: Global, program: &Program) -> Result<Opening, Status>
+    ensures opening { IfOk result (λ o. SearchMeans (files.Program program.now ∷ [])
+        (record { texts = o.text.items ∷ []; word = string_bytes o.line })) }
+    ensures refused { IfErr result (RefusesWork (SearchRefuses (files.Program program.now ∷ []))) }
 {
-    let program = match fiat_json::read_program(alloc, bytes) {
-        Ok(program) => program,
-        Err(fault) => return Err(fault),
-    };
-    let Some(_) = copy_form(&program) else {
+    let Some(_) = copy_form(program) else {
         return Err(not_searched());
     };
-    match plain_opening(alloc, &program) {
+    match plain_opening(alloc, program) {
         Ok(opening) => Ok(opening),
-        Err(_) => Err(ReadFault::Memory),
+        Err(_) => Err(Status::OutOfMemory),
     }
 }
 
 /// The fault of a program that `search` does not take yet.
-fn not_searched() -> ReadFault
-    ensures { result ≡ ReadFault.Program 7 (place_in Top 0 0) }
+fn not_searched() -> Status
+    ensures { result ≡ Status.Program 7 (place_in Top 0 0) }
 {
-    ReadFault::Program {
-        code: 7,
-        place: Place {
-            section: Section::Top,
-            item: 0,
-            inner: 0,
-        },
-    }
+    let place = Place {
+        section: Section::Top,
+        item: 0,
+        inner: 0,
+    };
+    Status::Program(7, place)
 }
 
 fn plain_opening(alloc: Global, program: &Program) -> Result<Opening, AllocError>

@@ -1,103 +1,135 @@
-//! Calls of the commands with words, over a shelf in memory.
-use crate::ends::{End, is_end};
+//! Calls of the commands with a command line, over a shelf in memory.
 use io_ports::{Fault, MemoryShelf, Shelf};
-use search_top::{Status, command};
+use search_top::{Status, command, exit_of, line_of, search};
 use std::alloc::{AllocError, Global};
 
-/// The words of a search of the one program of a shelf.
-pub const WORDS: [&str; 3] = ["search", "copy1.json", "copy1.s"];
-
-fn texts(alloc: Global, words: &[&str]) -> Result<Vec<String>, AllocError> {
-    let mut list = Vec::new(alloc);
-    for word in words {
-        list.push(String::from_str(alloc, word)?)?;
-    }
-    Ok(list)
+/// What the files `p.json` and `p.s` have. A file `other` stands beside them.
+#[derive(Clone, Copy)]
+pub struct Files<'a> {
+    pub program: &'a [u8],
+    pub asm: &'a [u8],
 }
 
-/// A shelf with the program, an old assembly and one more file, which fails these calls.
-pub fn shelf_with(alloc: Global, program: &[u8], fails: &[u64]) -> Result<MemoryShelf, AllocError> {
+/// Files with this program and another text.
+pub fn with_program(program: &str) -> Files<'_> {
+    Files {
+        program: program.as_bytes(),
+        asm: b"old",
+    }
+}
+
+/// What a call leaves: the exit status and the line with a blank before it, the assembly, and what was said.
+#[derive(Clone, Copy)]
+pub struct Left<'a> {
+    pub end: &'a str,
+    pub asm: &'a [u8],
+    pub said: &'a str,
+}
+
+/// A refusal, which leaves the assembly and says nothing.
+pub fn refused<'a>(files: Files<'a>, end: &'a str) -> Left<'a> {
+    Left {
+        end,
+        asm: files.asm,
+        said: "",
+    }
+}
+
+/// The words of a line with a blank between each two.
+pub fn words_of(alloc: Global, line: &str) -> Result<Vec<String>, AllocError> {
+    let mut words = Vec::new(alloc);
+    for word in line.split(' ') {
+        words.push(String::from_str(alloc, word)?)?;
+    }
+    Ok(words)
+}
+
+/// The exit status and the line of a status, with a blank between.
+pub fn end_of(alloc: Global, status: &Status) -> Result<String, AllocError> {
+    let line = line_of(alloc, status)?;
+    let exit = exit_of(status);
+    format!(in alloc; "{exit} {}", line.as_str())
+}
+
+fn shelf_of(alloc: Global, files: Files<'_>, fails: &[u64]) -> Result<MemoryShelf, AllocError> {
     let mut shelf = MemoryShelf::new(alloc, fails)?;
-    shelf.put("copy1.json", program)?;
-    shelf.put("copy1.s", b"old")?;
+    shelf.put("p.json", files.program)?;
+    shelf.put("p.s", files.asm)?;
     shelf.put("other", b"kept")?;
     Ok(shelf)
 }
 
-/// Whether a file has these bytes.
-pub fn has(shelf: &MemoryShelf, name: &str, bytes: &[u8]) -> bool {
+fn has(shelf: &MemoryShelf, name: &str, bytes: &[u8]) -> bool {
     match shelf.file(name) {
         Some(found) => found == bytes,
         None => false,
     }
 }
 
-/// Calls `search` with these words.
-pub fn search(
+// Whether the files, the output and the status are so.
+fn is_left(
     alloc: Global,
-    words: &[&str],
-    shelf: &mut MemoryShelf,
-) -> Result<Status, AllocError> {
-    let words = texts(alloc, words)?;
-    Ok(search_top::search(alloc, words.as_slice(), shelf))
-}
-
-/// Whether the next call of the shelf fails.
-pub fn fails_next(alloc: Global, shelf: &mut MemoryShelf) -> bool {
-    shelf.load(alloc, "other", 4).err() == Some(Fault::Failed)
-}
-
-/// The texts of the files `p.json` and `p.s`.
-#[derive(Clone, Copy)]
-pub struct Files<'a> {
-    pub program: &'a str,
-    pub asm: &'a str,
-}
-
-fn keeps(shelf: &MemoryShelf, files: Files<'_>) -> bool {
-    has(shelf, "p.json", files.program.as_bytes()) && has(shelf, "p.s", files.asm.as_bytes())
-}
-
-fn shelf_of(alloc: Global, files: Files<'_>, fails: u64) -> Result<MemoryShelf, AllocError> {
-    let mut shelf = MemoryShelf::new(alloc, &[fails])?;
-    shelf.put("p.json", files.program.as_bytes())?;
-    shelf.put("p.s", files.asm.as_bytes())?;
-    shelf.put("other", b"kept")?;
-    Ok(shelf)
-}
-
-/// Whether a command with these words ends so after this many calls of the shelf, says this text, and leaves
-/// the files.
-pub fn ends(
-    alloc: Global,
-    files: Files<'_>,
-    words: &[&str],
-    end: End,
-    calls: u64,
-    text: &str,
+    shelf: &MemoryShelf,
+    program: &[u8],
+    status: &Status,
+    left: Left<'_>,
 ) -> Result<bool, AllocError> {
-    let mut shelf = shelf_of(alloc, files, calls)?;
-    let words = texts(alloc, words)?;
-    let status = command(alloc, words.as_slice(), &mut shelf);
+    let end = end_of(alloc, status)?;
     Ok(
-        is_end(alloc, &status, end)?
-            && shelf.said() == text.as_bytes()
-            && keeps(&shelf, files)
-            && fails_next(alloc, &mut shelf),
+        end.as_str() == left.end
+            && has(shelf, "p.json", program)
+            && has(shelf, "p.s", left.asm)
+            && has(shelf, "other", b"kept")
+            && shelf.said() == left.said.as_bytes(),
     )
 }
 
-/// Whether a command with these words ends so where this call of the shelf fails, says nothing, and leaves the
-/// files.
-pub fn ends_at(
+fn fails_next(alloc: Global, shelf: &mut MemoryShelf) -> bool {
+    shelf.load(alloc, "other", 4).err() == Some(Fault::Failed)
+}
+
+/// Whether a line, by `search` if it begins so and else by `command`, leaves this, where these calls of the shelf
+/// fail. The last one of them has to be the first behind those that are made.
+pub fn leaves(
     alloc: Global,
     files: Files<'_>,
-    words: &[&str],
-    call: u64,
-    end: End,
+    line: &str,
+    fails: &[u64],
+    left: Left<'_>,
 ) -> Result<bool, AllocError> {
-    let mut shelf = shelf_of(alloc, files, call)?;
-    let words = texts(alloc, words)?;
-    let status = command(alloc, words.as_slice(), &mut shelf);
-    Ok(is_end(alloc, &status, end)? && shelf.said().is_empty() && keeps(&shelf, files))
+    let mut shelf = shelf_of(alloc, files, fails)?;
+    let words = words_of(alloc, line)?;
+    let status = if line.starts_with("search") {
+        search(alloc, words.as_slice(), &mut shelf)
+    } else {
+        command(alloc, words.as_slice(), &mut shelf)
+    };
+    Ok(is_left(alloc, &shelf, files.program, &status, left)? && fails_next(alloc, &mut shelf))
+}
+
+/// Whether the other one of the two calls refuses the line, and leaves everything with no call of the shelf.
+pub fn is_idle(alloc: Global, files: Files<'_>, line: &str) -> Result<bool, AllocError> {
+    let mut shelf = shelf_of(alloc, files, &[0])?;
+    let words = words_of(alloc, line)?;
+    let status = if line.starts_with("search") {
+        command(alloc, words.as_slice(), &mut shelf)
+    } else {
+        search(alloc, words.as_slice(), &mut shelf)
+    };
+    let left = refused(files, "2 usage");
+    Ok(is_left(alloc, &shelf, files.program, &status, left)? && fails_next(alloc, &mut shelf))
+}
+
+/// Whether a row of a line, `=>`, and the exit status with the line on standard error is a refusal behind so many
+/// calls.
+pub fn refuses(
+    alloc: Global,
+    files: Files<'_>,
+    row: &str,
+    calls: u64,
+) -> Result<bool, AllocError> {
+    let Some((line, end)) = row.split_once(" => ") else {
+        return Ok(false);
+    };
+    leaves(alloc, files, line, &[calls], refused(files, end))
 }

@@ -7,14 +7,12 @@ mod calls;
 #[cfg(test)]
 mod emulate;
 #[cfg(test)]
-mod ends;
-#[cfg(test)]
 mod eval;
+#[cfg(test)]
+mod lines;
 #[cfg(test)]
 mod programs;
 #[cfg(test)]
-mod publishing;
-#[cfg(test)]
-mod refusals;
+mod search;
 #[cfg(test)]
 mod show;

@@ -1,3 +1,4 @@
+-- The lemmas of this crate.
 pub mod ParamLemmas
 pub mod NameLemmas
 pub mod MissingLemmas
@@ -16,3 +17,9 @@ pub mod WrittenKept
 pub mod SomeOps
 pub mod SameLemmas
 pub mod LookupLemmas
+pub mod FailingOrder
+pub mod FailingNames
+pub mod FailingParams
+pub mod FailingBody
+pub mod FailingWhole
+pub mod FailingLaws

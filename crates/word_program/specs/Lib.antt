@@ -1,3 +1,4 @@
+-- The definitions of this crate, in the order to read them.
 pub mod Program
 pub mod Values
 pub mod Walk
@@ -5,3 +6,4 @@ pub mod Rules
 pub mod Accepted
 pub mod Evaluates
 pub mod Copy
+pub mod Failing

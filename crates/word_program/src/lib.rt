@@ -12,6 +12,7 @@ mod bits;
 mod body;
 mod copy;
 mod evaluation;
+mod fault_laws;
 mod inputs;
 mod laws;
 mod limits;
@@ -25,6 +26,7 @@ mod scope;
 
 pub use copy::copy_form;
 pub use evaluation::{EvalFault, check_inputs, eval};
+pub use fault_laws::{first_fault_is_first, without_fault_nothing_fails};
 pub use laws::{bits_are_zero_or_one, values_are_words};
 pub use limits::MAX_VALUES;
 pub use operation::{Op, Operand, OperandList, Target, TargetList};

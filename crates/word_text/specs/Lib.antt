@@ -1,2 +1,3 @@
+-- The definitions of this crate, in the order to read them.
 pub mod Texts
 pub mod Numbers

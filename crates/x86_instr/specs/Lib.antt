@@ -1,3 +1,4 @@
+-- The definitions of this crate, in the order to read them.
 pub mod Registers
 pub mod Ranges
 pub mod Fits

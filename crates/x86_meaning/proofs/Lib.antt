@@ -1,3 +1,4 @@
+-- The lemmas of this crate.
 pub mod Overflow
 pub mod Memory
 pub mod RegisterLemmas

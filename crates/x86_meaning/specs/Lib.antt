@@ -1,3 +1,4 @@
+-- The definitions of this crate, in the order to read them.
 pub mod Aligned
 pub mod Machine
 pub mod Runs

@@ -1,3 +1,4 @@
+-- At the end no digit is left to read.
 use Rattle.std.proofs.Common.{◌∙◌, sym}
 use Rattle.base.proofs.Digits.{numeral_end}
 use Rattle.base.proofs.numbers.numeral.Goals as goal

@@ -1,3 +1,4 @@
+-- The number so far, and the digits that are left.
 use Rattle.std.proofs.Common.{◌≡◌, ◌<◌, ◌^◌, drop}
 use Rattle.base.specs.Numbers.{numeral}
 use Rattle.base.proofs.Digits.{numeral_after}

@@ -1,3 +1,4 @@
+-- Values that lie in intervals, item by item, do so number by number.
 use Rattle.std.proofs.Common.{ℕ, zero, suc, ◌<◌, List, [], ◌∷◌, length, arith}
 use Rattle.std.specs.Prelude.{slice_index, slice_index_or}
 use Rattle.base.proofs.Arithmetic.{not_below_zero}

@@ -1,3 +1,4 @@
+-- What every program keeps of its operations, and the three promises from the list that is exact.
 use Rattle.std.proofs.Common.{◌≡◌, ◌<◌, [], length, get_or, sym, subst, arith}
 use Rattle.std.proofs.lemmas.Grind.{common_steps}
 use Rattle.std.specs.List.{AllByRecursion}

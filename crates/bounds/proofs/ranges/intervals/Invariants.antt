@@ -1,3 +1,4 @@
+-- The intervals so far, and those of the operations that are left behind them.
 use Rattle.std.proofs.Common.{◌≡◌, ◌++◌, drop}
 use Rattle.std.specs.Prelude.{fold}
 use Rattle.bounds.specs.Intervals.{op_intervals, intervals_of}

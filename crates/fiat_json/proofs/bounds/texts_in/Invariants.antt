@@ -1,3 +1,4 @@
+-- The texts so far, and what follows of the items that are left.
 use Rattle.std.proofs.Common.{◌≡◌, [], drop}
 use Rattle.serde_json.specs.View.{items_view}
 use Rattle.fiat_json.specs.Shape.{list_of, texts_from}

@@ -1,3 +1,4 @@
+-- What is found of all items is what is found of those that are left, behind the parameters so far.
 use Rattle.std.proofs.Common.{◌≡◌, [], drop}
 use Rattle.std.specs.Prelude.{fold}
 use Rattle.serde_json.specs.View.{items_view}

@@ -1,3 +1,4 @@
+-- The loop over the lines.
 use Rattle.std.proofs.Common.{◌≡◌, ◌*◌, ◌≤◌, take}
 use Rattle.search_top.specs.Cost.{cost_of as cost_spec}
 use Rattle.search_top.proofs.cost.cost_of.Given as goal

@@ -1,6 +1,6 @@
 -- The words so far, and those of the parameters to come, are all of them.
 use Rattle.std.proofs.Common.{◌≡◌, ◌++◌, drop}
-use Rattle.search_top.specs.Emulation.{words_from}
+use Rattle.search_top.specs.Emulate.{words_from}
 use Rattle.search_top.proofs.emulation.output_words.Given as goal
 
 abbrev pub invariant-loop-number : goal.invariant-loop-number

@@ -1,3 +1,4 @@
+-- The loop over the parameters, of which some are outputs.
 use Rattle.std.proofs.Common.{◌≡◌, ◌++◌, drop, string_bytes}
 use Rattle.search_top.specs.Outputs as spec
 use Rattle.search_top.proofs.outputs.output_lines.Given as goal

@@ -1,3 +1,4 @@
+-- The loop over the words of an array.
 use Rattle.std.proofs.Common.{◌≡◌, ◌++◌, drop, string_bytes}
 use Rattle.search_top.specs.Outputs as spec
 use Rattle.search_top.proofs.outputs.push_array.Given as goal

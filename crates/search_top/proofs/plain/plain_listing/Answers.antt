@@ -1,3 +1,4 @@
+-- That the listing is correct, from the lemma on copies.
 use Rattle.search_top.proofs.CopyIsCorrect.{is_copy_correct}
 use Rattle.search_top.proofs.plain.plain_listing.Goals as goal
 

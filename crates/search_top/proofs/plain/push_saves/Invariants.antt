@@ -1,3 +1,4 @@
+-- The loop over the parameters, each with a line that saves it.
 use Rattle.std.proofs.Common.{◌≡◌, ◌++◌, drop}
 use Rattle.search_top.specs.Plain as spec
 use Rattle.search_top.proofs.plain.push_saves.Given as goal

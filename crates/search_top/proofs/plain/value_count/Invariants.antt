@@ -1,3 +1,4 @@
+-- The loop over the operations, each with its values.
 use Rattle.std.proofs.Common.{◌≡◌, ◌+◌, drop}
 use Rattle.search_top.specs.Plain as spec
 use Rattle.search_top.proofs.plain.value_count.Given as goal

@@ -1,3 +1,4 @@
+-- The word in the map, by the key of the code.
 use Rattle.std.proofs.Common.{sym, ap, ◌∙◌}
 use Rattle.std.specs.FinMap as map
 use Rattle.x86_meaning.proofs.Entries.{held, aligned_held}

@@ -1,3 +1,4 @@
+-- An empty map has no address.
 use Rattle.std.proofs.Common.{sym, subst}
 use Rattle.x86_meaning.specs.Aligned.{AreAligned}
 use Rattle.x86_meaning.proofs.Entries.{aligned_empty, emptied}

@@ -1,3 +1,4 @@
+-- The map with another word under a key that it has.
 use Rattle.std.proofs.Common.{◌≡◌, is_some, if◌then◌else◌, true, sym, ap, subst, ◌∙◌}
 use Rattle.std.specs.FinMap as map
 use Rattle.std.specs.Option.{option_copied_mut}

@@ -1,3 +1,4 @@
+-- The map with a word under the key.
 use Rattle.std.proofs.Common.{ap, sym, subst, ◌∙◌}
 use Rattle.std.specs.FinMap as map
 use Rattle.x86_meaning.specs.Aligned.{AreAligned}

@@ -1,0 +1,70 @@
+-- What a status prints on standard error, and the exit status that it ends with.
+use Rattle.std.specs.Prelude.{ℕ, List, [], ◌∷◌, ◌++◌, codes, decimal, nat_lt, if◌then◌else◌}
+use Rattle.word_text.specs.declared.fault.Section.{Section}
+use Rattle.word_text.specs.declared.fault.Section.TheVariants as sections
+use Rattle.word_text.specs.declared.fault.Place.{Place}
+use Rattle.x86_instr.specs.declared.listing.ListingFault.{ListingFault}
+use Rattle.x86_instr.specs.declared.listing.ListingFault.TheVariants as causes
+use Rattle.command_frame.specs.declared.status.Status.{Status}
+use Rattle.command_frame.specs.declared.status.Status.TheVariants as statuses
+
+abbrev pub exit_of : Status → ℕ
+exit_of statuses.Ok = 0
+exit_of statuses.Usage = 2
+exit_of (statuses.ReadFault name) = 3
+exit_of (statuses.TooLong name limit) = 4
+exit_of statuses.NotJson = 5
+exit_of (statuses.Program code place) = 6
+exit_of (statuses.WriteFault name) = 7
+exit_of (statuses.Text line) = 8
+exit_of (statuses.Listing fault) = 9
+exit_of (statuses.Stuck line) = 11
+exit_of (statuses.Inputs given wanted) = 12
+exit_of (statuses.OutOfBounds word) = 13
+exit_of statuses.OutOfMemory = 17
+
+abbrev pub section_text : Section → List ℕ
+section_text sections.Top = codes "top"
+section_text sections.Returns = codes "returns"
+section_text sections.Arguments = codes "arguments"
+section_text sections.Body = codes "body"
+
+abbrev pub listing_text : ListingFault → List ℕ
+listing_text causes.TooLong = codes "listing too long"
+listing_text causes.NoReturn = codes "listing without its return"
+
+-- with two digits at least
+unfoldable pub code_text : ℕ → List ℕ
+code_text code = if nat_lt code 10 then 48 ∷ decimal code else decimal code
+
+unfoldable pub place_text : Place → List ℕ
+place_text place = section_text place.section
+    ++ (codes " " ++ (decimal place.item ++ (codes " " ++ decimal place.inner)))
+
+unfoldable pub too_long_text : List ℕ → ℕ → List ℕ
+too_long_text name limit = name ++ (codes " has more than " ++ (decimal limit ++ codes " bytes"))
+
+unfoldable pub program_fault_text : ℕ → Place → List ℕ
+program_fault_text code place = codes "program fault P" ++ (code_text code ++ (codes " at " ++ place_text place))
+
+unfoldable pub inputs_text : ℕ → ℕ → List ℕ
+inputs_text given wanted = decimal given ++ (codes " inputs, " ++ (decimal wanted ++ codes " wanted"))
+
+unfoldable pub out_of_bounds_text : ℕ → List ℕ
+out_of_bounds_text word = codes "input " ++ (decimal word ++ codes " out of bounds")
+
+-- the line without its line feed; nothing for Ok
+unfoldable pub line_of : Status → List ℕ
+line_of statuses.Ok = []
+line_of statuses.Usage = codes "usage"
+line_of (statuses.ReadFault name) = codes "cannot read " ++ name
+line_of (statuses.TooLong name limit) = too_long_text name limit
+line_of statuses.NotJson = codes "not JSON"
+line_of (statuses.Program code place) = program_fault_text code place
+line_of (statuses.WriteFault name) = codes "cannot write " ++ name
+line_of (statuses.Text line) = codes "assembly line " ++ decimal line
+line_of (statuses.Listing fault) = listing_text fault
+line_of (statuses.Stuck line) = codes "stuck at " ++ decimal line
+line_of (statuses.Inputs given wanted) = inputs_text given wanted
+line_of (statuses.OutOfBounds word) = out_of_bounds_text word
+line_of statuses.OutOfMemory = codes "out of memory"

@@ -1,0 +1,16 @@
+//! How every command ends: its status, and what that says of its calls of a shelf.
+//!
+//! A command is data (`specs/Ends.antt`): the files that it loads, those that it stores, and a word on standard
+//! output. `Ends` says once for all commands what each [`Status`] means, by what the command makes of its files
+//! and why it refuses them. The loads and the writes that commands share are here.
+#![tactic(auto)]
+
+mod format;
+mod loading;
+mod status;
+mod writing;
+
+pub use format::{ASM_LIMIT, Format, PROGRAM_LIMIT};
+pub use loading::{load_listing, load_program};
+pub use status::{Status, exit_of, line_of};
+pub use writing::{output_name, say_text, store_and_say};

@@ -1,0 +1,23 @@
+-- The end of the command, from the end of its one load.
+use Rattle.std.proofs.Common.{sym, subst, [], ◌∷◌}
+use Rattle.command_frame.specs.Files.{Program}
+use Rattle.command_frame.specs.Writes.{says}
+use Rattle.command_frame.proofs.Ending.{at_load, at_work, after_load, written}
+use Rattle.search_top.specs.Eval.{EvalMeans}
+use Rattle.search_top.proofs.eval_command.eval_file.Goals as goal
+
+pub returns-in-Err : goal.returns-in-Err
+returns-in-Err g c = at_load _ _ _ _ _ _ _ c.in-Err.ensures.refused
+
+pub returns-in-Ok-text : goal.returns-in-Ok-text
+returns-in-Ok-text g c =
+    after_load _ _ _ _ _ c.in-Ok-load_program.ensures.program _ _ _ _ _
+    (written _ _ _ _ _ _
+    (subst (λ word. EvalMeans c.args.inputs.now (Program c.in-Ok-load_program.program ∷ []) (says word))
+    (sym c.as_bytes.ensures.value) c.in-Ok-text.ensures.text)
+    c.say_text.ensures.writes c.say_text.ensures.others)
+
+pub returns-in-Err-text : goal.returns-in-Err-text
+returns-in-Err-text g c =
+    after_load _ _ _ _ _ c.in-Ok-load_program.ensures.program _ _ _ _ _
+    (at_work _ _ _ _ _ c.in-Err-text.ensures.refused)
