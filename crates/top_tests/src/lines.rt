@@ -108,7 +108,10 @@ fn ends_at_the_call_that_fails(rt: HostRuntime) -> Result<(), Fail> {
         ("show p.s", 1, "7 cannot write -"),
     ] {
         let left = refused(COPY, end);
-        assert!(rt; leaves(rt.alloc(), COPY, line, &[call, call + 1], left)?, "{line}, {call}");
+        assert!(rt;
+            leaves(rt.alloc(), COPY, line, &[call, call + 1], left)?,
+            "{line}, {call}"
+        );
     }
     let left = Left {
         end: "7 cannot write -",
