@@ -1,19 +1,16 @@
 -- How the loads, the work and the writes of a command make its end. A command is proved from its last step to its
 -- first: `at_work` or `written` behind all loads, then `after_load` for each load that was made, and `at_load` for one
 -- that failed.
-use Rattle.std.proofs.Common.{◌≡◌, ◌≢◌, ℕ, zero, suc, ◌+◌, ◌≤◌, List, [], ◌∷◌, length, take, slice_get, Option, Some}
-use Rattle.std.proofs.Common.{◌<◌, None, IfSome, refl, sym, ◌∙◌, ap, subst, arith, inl, inr, ◌⊎◌}
-use Rattle.std.specs.List.{AllByRecursion}
+use Rattle.std.proofs.Common.{◌≡◌, ℕ, zero, suc, ◌+◌, List, [], ◌∷◌, length, take, Option, Some}
+use Rattle.std.proofs.Common.{◌<◌, None, IfSome, refl, sym, ◌∙◌, subst, arith, inl, inr, ◌⊎◌}
 use Rattle.io_ports.specs.Shelf.{Rose, Stays, Grows, GrowsByPart}
-use Rattle.command_frame.specs.declared.format.Format.{Format}
-use Rattle.command_frame.specs.declared.format.Format.TheVariants as formats
 use Rattle.command_frame.specs.declared.status.Status.{Status}
 use Rattle.command_frame.specs.declared.status.Status.TheVariants as statuses
 use Rattle.command_frame.specs.Change.{View, Change, HasCalls, IsUntouched}
 use Rattle.command_frame.specs.Files.{Load, Content, IsRead, FailsToLoad, RefusesFile, limit_of}
 use Rattle.command_frame.specs.Loading.{Loads, Fails}
-use Rattle.command_frame.specs.Writes.{Output, Writes, IsWritten, StopsAtStore, StopsAtOutput, OthersStay}
-use Rattle.command_frame.specs.Ends.{Calls, AreRead, StopsAtLoad, StopsAtWork, StopsForMemory, Publishes, Answers}
+use Rattle.command_frame.specs.Writes.{Output, Writes, StopsAtStore, StopsAtOutput, OthersStay}
+use Rattle.command_frame.specs.Ends.{Calls, AreRead, StopsAtLoad, StopsAtWork, Publishes, Answers}
 use Rattle.command_frame.specs.Ends.{OnRefusal, Ends, RefusesWork}
 
 -- from one moment to another

@@ -53,6 +53,7 @@ pub record Publishes (command : Calls) (Means : List Content → Output → Type
   pub means : Means contents output
   pub writes : Writes (length command.loads) command.stores output change status
 
+-- by cases of the status: what it says of the loads, the work and the writes
 abbrev pub Answers : Calls → (List Content → Output → Type 0) → (List Content → Status → Type 0) → Change → Status
     → Type 0
 Answers command Means Refuses change statuses.Ok = Publishes command Means change statuses.Ok

@@ -1,5 +1,5 @@
 -- `search`: the opening of a program, which is its plain listing.
-use Rattle.std.specs.Prelude.{◌≡◌, ℕ, List, [], ◌∷◌, ◌++◌, codes, decimal, Option, Some, None, IfSome, IsSome}
+use Rattle.std.specs.Prelude.{◌≡◌, ℕ, List, [], ◌∷◌, ◌++◌, codes, decimal, None, IfSome, IsSome}
 use Rattle.std.specs.Str.Lines.{lines}
 use Rattle.io_ports.specs.Shelf.{Grows}
 use Rattle.word_text.specs.declared.fault.Section.TheVariants.{Top}

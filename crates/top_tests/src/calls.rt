@@ -122,12 +122,7 @@ pub fn is_idle(alloc: Global, files: Files<'_>, line: &str) -> Result<bool, Allo
 
 /// Whether a row of a line, `=>`, and the exit status with the line on standard error is a refusal behind so many
 /// calls.
-pub fn refuses(
-    alloc: Global,
-    files: Files<'_>,
-    row: &str,
-    calls: u64,
-) -> Result<bool, AllocError> {
+pub fn refuses(alloc: Global, files: Files<'_>, row: &str, calls: u64) -> Result<bool, AllocError> {
     let Some((line, end)) = row.split_once(" => ") else {
         return Ok(false);
     };

@@ -4,10 +4,12 @@ use crate::programs::{COPY1, COPY1_TEXT};
 use search_top::Status;
 use std::test::Fail;
 
-const COPY: Files<'_> = Files {
-    program: COPY1.as_bytes(),
-    asm: COPY1_TEXT.as_bytes(),
-};
+fn copy() -> Files<'static> {
+    Files {
+        program: COPY1.as_bytes(),
+        asm: COPY1_TEXT.as_bytes(),
+    }
+}
 
 // Command lines of no command.
 const NONE: &str = "\
@@ -46,9 +48,9 @@ show --help
 #[test]
 fn refuses_what_is_no_command_with_no_call(rt: HostRuntime) -> Result<(), Fail> {
     for line in NONE.lines() {
-        let left = refused(COPY, "2 usage");
-        assert!(rt; leaves(rt.alloc(), COPY, line, &[0], left)?, "{line}");
-        assert!(rt; is_idle(rt.alloc(), COPY, line)?, "{line}");
+        let left = refused(copy(), "2 usage");
+        assert!(rt; leaves(rt.alloc(), copy(), line, &[0], left)?, "{line}");
+        assert!(rt; is_idle(rt.alloc(), copy(), line)?, "{line}");
     }
     for line in [
         "search p.json p.s",
@@ -56,7 +58,7 @@ fn refuses_what_is_no_command_with_no_call(rt: HostRuntime) -> Result<(), Fail> 
         "emulate p.json p.s --in 7",
         "show p.s",
     ] {
-        assert!(rt; is_idle(rt.alloc(), COPY, line)?, "{line}");
+        assert!(rt; is_idle(rt.alloc(), copy(), line)?, "{line}");
     }
     Ok(())
 }
@@ -80,7 +82,7 @@ fn takes_options_anywhere_and_names_behind_two_hyphens(rt: HostRuntime) -> Resul
             asm: COPY1_TEXT.as_bytes(),
             said,
         };
-        assert!(rt; leaves(rt.alloc(), COPY, line, &[calls], left)?, "{line}");
+        assert!(rt; leaves(rt.alloc(), copy(), line, &[calls], left)?, "{line}");
     }
     for (row, calls) in [
         ("eval - => 3 cannot read -", 1),
@@ -88,7 +90,7 @@ fn takes_options_anywhere_and_names_behind_two_hyphens(rt: HostRuntime) -> Resul
         ("emulate p.json - => 3 cannot read -", 2),
         ("show -- --in => 3 cannot read --in", 1),
     ] {
-        assert!(rt; refuses(rt.alloc(), COPY, row, calls)?, "{row}");
+        assert!(rt; refuses(rt.alloc(), copy(), row, calls)?, "{row}");
     }
     Ok(())
 }
@@ -107,8 +109,11 @@ fn ends_at_the_call_that_fails(rt: HostRuntime) -> Result<(), Fail> {
         ("show p.s", 0, "3 cannot read p.s"),
         ("show p.s", 1, "7 cannot write -"),
     ] {
-        let left = refused(COPY, end);
-        assert!(rt; leaves(rt.alloc(), COPY, line, &[call, call + 1], left)?, "{line}, {call}");
+        let left = refused(copy(), end);
+        assert!(rt;
+            leaves(rt.alloc(), copy(), line, &[call, call + 1], left)?,
+            "{line}, {call}"
+        );
     }
     let left = Left {
         end: "7 cannot write -",

@@ -1,8 +1,7 @@
 //! Programs, and listings for them.
 
 /// A copy of one word.
-pub const COPY1: &str =
-    r#"{"operation":"copy1",
+pub const COPY1: &str = r#"{"operation":"copy1",
 "returns":[{"name":"out1","datatype":"u64[1]"}],"arguments":
 [{"name":"arg1","datatype":"u64[1]"}],"body":
 [{"operation":"=","name":["out1[0]"],"arguments":["arg1[0]"]}]}
@@ -27,15 +26,13 @@ copy1:
 ";
 
 /// A sum with carry.
-pub const ADD1: &str =
-    r#"{"operation":"add1",
+pub const ADD1: &str = r#"{"operation":"add1",
 "returns":[{"name":"out1","datatype":"u64[2]"}],"arguments":
 [{"name":"arg1","datatype":"u1"},{"name":"arg2","datatype":"u64"},{"name":"arg3","datatype":"u64"}],"body":
 [{"operation":"addcarryx","name":["out1[0]","out1[1]"],"arguments":["arg1","arg2","arg3"]}]}"#;
 
 /// Two carry chains of two words each.
-pub const CHAIN2: &str =
-    r#"{"operation":"chain2",
+pub const CHAIN2: &str = r#"{"operation":"chain2",
 "returns":[{"name":"out1","datatype":"u64[4]"}],"arguments":
 [{"name":"arg1","datatype":"u64[4]"},{"name":"arg2","datatype":"u64[4]"}],"body":
 [{"operation":"addcarryx","name":["out1[0]","x"],"arguments":["0","arg1[0]","arg2[0]"]},
@@ -44,29 +41,25 @@ pub const CHAIN2: &str =
 {"operation":"addcarryx","name":["out1[3]","_"],"arguments":["y","arg1[3]","arg2[3]"]}]}"#;
 
 /// The bits that two words share.
-pub const AND2: &str =
-    r#"{"operation":"and2",
+pub const AND2: &str = r#"{"operation":"and2",
 "returns":[{"name":"out1","datatype":"u64[1]"}],"arguments":
 [{"name":"arg1","datatype":"u64[1]"},{"name":"arg2","datatype":"u64[1]"}],"body":
 [{"operation":"&","name":["out1[0]"],"arguments":["arg1[0]","arg2[0]"]}]}"#;
 
 /// A difference with borrow.
-pub const SUB1: &str =
-    r#"{"operation":"sub1",
+pub const SUB1: &str = r#"{"operation":"sub1",
 "returns":[{"name":"out1","datatype":"u64[2]"}],"arguments":
 [{"name":"arg1","datatype":"u1"},{"name":"arg2","datatype":"u64"},{"name":"arg3","datatype":"u64"}],"body":
 [{"operation":"subborrowx","name":["out1[0]","out1[1]"],"arguments":["arg1","arg2","arg3"]}]}"#;
 
 /// The two words of a product.
-pub const MULX1: &str =
-    r#"{"operation":"mulx1",
+pub const MULX1: &str = r#"{"operation":"mulx1",
 "returns":[{"name":"out1","datatype":"u64[2]"}],"arguments":
 [{"name":"arg1","datatype":"u64"},{"name":"arg2","datatype":"u64"}],"body":
 [{"operation":"mulx","name":["out1[0]","out1[1]"],"arguments":["arg1","arg2"]}]}"#;
 
 /// A copy of two words.
-pub const COPY2: &str =
-    r#"{"operation":"copy2",
+pub const COPY2: &str = r#"{"operation":"copy2",
 "returns":[{"name":"out1","datatype":"u64[2]"}],"arguments":
 [{"name":"arg1","datatype":"u64[2]"}],"body":
 [{"operation":"=","name":["out1[0]"],"arguments":["arg1[0]"]},

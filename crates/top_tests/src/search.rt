@@ -85,7 +85,10 @@ fn reads_the_same_program_in_another_text(rt: HostRuntime) -> Result<(), Fail> {
     for row in SAME.trim().lines() {
         let program = changed(rt.alloc(), COPY1, row)?;
         assert_ne!(rt; program.as_str(), COPY1, "{row}");
-        assert!(rt; publishes(rt.alloc(), program.as_str(), COPY1_TEXT)?, "{row}");
+        assert!(rt;
+            publishes(rt.alloc(), program.as_str(), COPY1_TEXT)?,
+            "{row}"
+        );
     }
     Ok(())
 }
@@ -116,7 +119,10 @@ fn refuses_other_programs(rt: HostRuntime) -> Result<(), Fail> {
         let (end, change) = row.split_once(" => ").unwrap_or(("", ""));
         let program = changed(rt.alloc(), COPY1, change)?;
         let files = with_program(program.as_str());
-        assert!(rt; leaves(rt.alloc(), files, LINE, &[1], refused(files, end))?, "{row}");
+        assert!(rt;
+            leaves(rt.alloc(), files, LINE, &[1], refused(files, end))?,
+            "{row}"
+        );
     }
     Ok(())
 }

@@ -1,8 +1,5 @@
 -- The end of the command, from the end of its one load.
-use Rattle.std.proofs.Common.{sym, subst, [], ◌∷◌}
-use Rattle.command_frame.specs.Files.{Program}
 use Rattle.command_frame.proofs.Ending.{at_load, at_work, after_load, written}
-use Rattle.search_top.specs.Search.{SearchMeans}
 use Rattle.search_top.proofs.search_command.search_file.Goals as goal
 
 pub returns-in-Err : goal.returns-in-Err
