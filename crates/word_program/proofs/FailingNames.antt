@@ -1,10 +1,11 @@
 -- What a search in a list finds is what the list contains.
 use Rattle.std.proofs.Common.{◌≡◌, ℕ, ◌+◌, Bool, true, false, ◌&&◌, ◌||◌, cond, List, [], ◌∷◌}
 use Rattle.std.proofs.Common.{map, refl, sym, ◌∙◌, ap, ap₂, subst}
+use Rattle.std.proofs.lemmas.Iterator.Adapters.{position_from-zero}
 use Rattle.std.proofs.lemmas.List.Folds.{Any-from_list_any, list_any_at}
 use Rattle.std.proofs.lemmas.Slice.Eq.{bytes_eq-Decides}
 use Rattle.std.specs.Prelude.{Option, Some, None, is_some, is_none, ◌==◌, slice_index_or}
-use Rattle.std.specs.List.{Contains, list_any, position_from}
+use Rattle.std.specs.List.{Contains, list_any, position, position_from}
 use Rattle.std.specs.Str.{bytes_eq}
 use Rattle.base.proofs.Arithmetic.{equal_by_test, test_of_itself}
 use Rattle.word_program.specs.declared.parameter.Param.{Param}
@@ -44,6 +45,9 @@ found_any test n (x ∷ xs) = by_first (test x) (found_any test (n + 1) xs)
     by_first true e = refl
     by_first false e = e
 
+pub found_first : {K : Type 0} (test : K → Bool) (xs : List K) → is_some (position test xs) ≡ list_any test xs
+found_first test xs = ap is_some (position_from-zero test xs) ∙ found_any test 0 xs
+
 -- where only this item passes the test
 pub any_contains : {X : Type 0} (test : X → Bool) (y : X) → ((x : X) → test x ≡ true → x ≡ y) → (xs : List X)
     → list_any test xs ≡ true → Contains xs y
@@ -77,12 +81,12 @@ pub found_param : (params : List Param) (text : List ℕ) → is_some (param_nam
     → Contains (map (λ p. p.name) params) text
 found_param params text found =
     any_contains (λ n. bytes_eq n text) text (λ n. same_text n text) (map (λ p. p.name) params)
-    (sym (any_named params text) ∙ sym (found_any _ 0 params) ∙ found)
+    (sym (any_named params text) ∙ sym (found_first _ params) ∙ found)
 
 pub param_found : (params : List Param) (text : List ℕ) → Contains (map (λ p. p.name) params) text
     → is_some (param_named params text) ≡ true
 param_found params text w =
-    found_any _ 0 params ∙ any_named params text
+    found_first _ params ∙ any_named params text
     ∙ contains_any (λ n. bytes_eq n text) text (same_bytes text) (map (λ p. p.name) params) w
 
 -- the target that is at an output word
