@@ -2,7 +2,7 @@
 use crate::parts::parts;
 use std::alloc::Global;
 use std::test::Fail;
-use word_program::{EvalFault, Operand, Program, ProgramFault, copy_form, eval};
+use word_program::{EvalFault, Operand, Program, ProgramFault, eval};
 
 const ADD1: &str =
     "add1|out1 u64[2]|arg1 u1;arg2 u64;arg3 u64|addcarryx out1[0],out1[1] arg1,arg2,arg3";
@@ -148,20 +148,6 @@ fn bits_are_told(rt: HostRuntime) -> Result<(), Fail> {
     assert!(rt; program.is_bit(&Operand::Input { param: 1, word: 0 }));
     assert!(rt; !program.is_bit(&Operand::Input { param: 2, word: 0 }));
     assert!(rt; program.is_bit(&Operand::Literal(1)) && !program.is_bit(&Operand::Literal(2)));
-    Ok(())
-}
-
-#[test]
-fn copies_are_told(rt: HostRuntime) -> Result<(), Fail> {
-    let copy = parts(
-        rt.alloc(),
-        "copy1|out1 u64[1]|arg1 u64[32]|= out1[0] arg1[31]",
-    )?;
-    let program = Program::new(rt.alloc(), &copy)?;
-    assert_eq!(rt; copy_form(&program), Some((32, 31)));
-    let other = parts(rt.alloc(), AND2)?;
-    let program = Program::new(rt.alloc(), &other)?;
-    assert_eq!(rt; copy_form(&program), None);
     Ok(())
 }
 

@@ -18,12 +18,12 @@ P02 top 0 0 # _|o u64[1]||= o[0] 1 # __|o u64[1]||= o[0] 1
 P02 top 0 0 # |o u64[1]||= o[0] 1 # F|o u64[1]||= o[0] 1
 P02 top 0 0 # f-|o u64[1]||= o[0] 1 # f_|o u64[1]||= o[0] 1
 P02 top 0 0 # é|o u64[1]||= o[0] 1 # e|o u64[1]||= o[0] 1
-P02 top 0 0 # nnnnnnnnnnnnnnnnnnnnnnnnnnnnnnnnnnnnnnnnnnnnnnnnnnnnnnnnnnnnnnnnn|o u64[1]||= o[0] 1 #
+P02 top 0 0 # nnnnnnnnnnnnnnnnnnnnnnnnnnnnnnnnnnnnnnnnnnnnnnnnnnnnnnnnnnnnnnnnn|o u64[1]||= o[0] 1 # \
     nnnnnnnnnnnnnnnnnnnnnnnnnnnnnnnnnnnnnnnnnnnnnnnnnnnnnnnnnnnnnnnn|o u64[1]||= o[0] 1
-P05 top 0 0 # f|o u64[1]|a0 u64;a1 u64;a2 u64;a3 u64;a4 u64;a5 u64|= o[0] 1 # f|o u64[1]|a0 u64;a1 u64;a2 u64;a3 u64;a4
-    u64|= o[0] 1
-P05 top 0 0 # f|o u64[1];p u64[1];q u64[1];r u64[1];s u64[1];t u64[1];u u64[1]||= o[0] 1;= p[0] 1;= q[0] 1;= r[0] 1;=
-    s[0] 1;= t[0] 1 # f|o u64[1];p u64[1];q u64[1];r u64[1];s u64[1];t u64[1]||= o[0] 1;= p[0] 1;= q[0] 1;= r[0] 1;=
+P05 top 0 0 # f|o u64[1]|a0 u64;a1 u64;a2 u64;a3 u64;a4 u64;a5 u64|= o[0] 1 # f|o u64[1]|a0 u64;a1 u64;a2 u64;a3 \
+    u64;a4 u64|= o[0] 1
+P05 top 0 0 # f|o u64[1];p u64[1];q u64[1];r u64[1];s u64[1];t u64[1];u u64[1]||= o[0] 1;= p[0] 1;= q[0] 1;= r[0] 1;= \
+    s[0] 1;= t[0] 1 # f|o u64[1];p u64[1];q u64[1];r u64[1];s u64[1];t u64[1]||= o[0] 1;= p[0] 1;= q[0] 1;= r[0] 1;= \
     s[0] 1;= t[0] 1
 P15 top 0 0 # f||a u64|= _ a # f|o u64[1]|a u64|= o[0] a
 P15 top 0 0 # f||| # f|o u64[1]||= o[0] 0
@@ -33,13 +33,13 @@ P15 top 0 0 # f||| # f|o u64[1]||= o[0] 0
 const PARAMETERS: &str = "\
 P02 returns 0 0 # f|2 u64[1]||= o[0] 1 # f|o u64[1]||= o[0] 1
 P02 returns 1 0 # f|o u64[1];_ u64[1]||= o[0] 1;= q[0] 1 # f|o u64[1];q u64[1]||= o[0] 1;= q[0] 1
-P02 returns 1 0 # f|o u64[1];nnnnnnnnnnnnnnnnnnnnnnnnnnnnnnnnnnnnnnnnnnnnnnnnnnnnnnnnnnnnnnnnn u64[1]||= o[0] 1;=
-    nnnnnnnnnnnnnnnnnnnnnnnnnnnnnnnnnnnnnnnnnnnnnnnnnnnnnnnnnnnnnnnn[0] 1 # f|o
-    u64[1];nnnnnnnnnnnnnnnnnnnnnnnnnnnnnnnnnnnnnnnnnnnnnnnnnnnnnnnnnnnnnnnn u64[1]||= o[0] 1;=
+P02 returns 1 0 # f|o u64[1];nnnnnnnnnnnnnnnnnnnnnnnnnnnnnnnnnnnnnnnnnnnnnnnnnnnnnnnnnnnnnnnnn u64[1]||= o[0] 1;= \
+    nnnnnnnnnnnnnnnnnnnnnnnnnnnnnnnnnnnnnnnnnnnnnnnnnnnnnnnnnnnnnnnn[0] 1 # f|o \
+    u64[1];nnnnnnnnnnnnnnnnnnnnnnnnnnnnnnnnnnnnnnnnnnnnnnnnnnnnnnnnnnnnnnnn u64[1]||= o[0] 1;= \
     nnnnnnnnnnnnnnnnnnnnnnnnnnnnnnnnnnnnnnnnnnnnnnnnnnnnnnnnnnnnnnnn[0] 1
 P02 arguments 0 0 # f|o u64[1]|_ u64|= o[0] 1 # f|o u64[1]|_0 u64|= o[0] 1
 P02 arguments 1 0 # f|o u64[1]|a u64;a.b u64|= o[0] 1 # f|o u64[1]|a u64;a_b u64|= o[0] 1
-P02 arguments 0 0 # f|o u64[1]|nnnnnnnnnnnnnnnnnnnnnnnnnnnnnnnnnnnnnnnnnnnnnnnnnnnnnnnnnnnnnnnnn u64|= o[0] 1 # f|o
+P02 arguments 0 0 # f|o u64[1]|nnnnnnnnnnnnnnnnnnnnnnnnnnnnnnnnnnnnnnnnnnnnnnnnnnnnnnnnnnnnnnnnn u64|= o[0] 1 # f|o \
     u64[1]|nnnnnnnnnnnnnnnnnnnnnnnnnnnnnnnnnnnnnnnnnnnnnnnnnnnnnnnnnnnnnnnn u64|= o[0] 1
 P03 returns 0 0 # f|o u64||= o[0] 1 # f|o u64[1]||= o[0] 1
 P03 returns 0 0 # f|o u1||= o[0] 1 # f|o u64[1]||= o[0] 1
@@ -187,8 +187,8 @@ P02 body 0 2 # = [0] b # = o[0] b
 P02 body 0 2 # = _[0] b # = o[0] b
 P02 body 1 2 # = o[0] b;= 1x b # = o[0] b;= x1 b
 P02 body 1 2 # = o[0] b;= é b # = o[0] b;= e b
-P02 body 1 2 # = o[0] b;= nnnnnnnnnnnnnnnnnnnnnnnnnnnnnnnnnnnnnnnnnnnnnnnnnnnnnnnnnnnnnnnnn b # =
-    o[0] b;= nnnnnnnnnnnnnnnnnnnnnnnnnnnnnnnnnnnnnnnnnnnnnnnnnnnnnnnnnnnnnnnn b
+P02 body 1 2 # = o[0] b;= nnnnnnnnnnnnnnnnnnnnnnnnnnnnnnnnnnnnnnnnnnnnnnnnnnnnnnnnnnnnnnnnn b # = o[0] b;= \
+    nnnnnnnnnnnnnnnnnnnnnnnnnnnnnnnnnnnnnnnnnnnnnnnnnnnnnnnnnnnnnnnn b
 P02 body 0 3 # mulx ,o[0] b,b # mulx _,o[0] b,b
 P02 body 0 4 # mulx o[0],1 b,b # mulx o[0],x b,b
 P02 body 0 5 # addcarryx o[0],x.y 0,b,b # addcarryx o[0],xy 0,b,b

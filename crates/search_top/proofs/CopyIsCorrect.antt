@@ -5,7 +5,7 @@ use Rattle.std.proofs.lemmas.List.{length-replicate}
 use Rattle.std.specs.FinMap as map
 use Rattle.word_program.specs.declared.parameter.Role.TheVariants.{Output, InputArray}
 use Rattle.word_program.specs.Program.{Source, full}
-use Rattle.word_program.specs.Copy.{copy_of, IsCopy}
+use Rattle.search_top.specs.Copy.{copy_of, IsCopy}
 use Rattle.word_program.specs.Values.{input_word, output_word}
 use Rattle.x86_instr.specs.declared.operand.Reg.TheVariants.{Rsp, Rdi}
 use Rattle.x86_instr.specs.declared.operand.Src.TheVariants as srcs

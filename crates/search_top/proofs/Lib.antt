@@ -1,3 +1,4 @@
+pub mod CopyLemmas
 -- The lemmas of this crate.
 pub mod CopyIsCorrect
 pub mod OutputWords

@@ -1,3 +1,4 @@
+pub mod Copy
 -- The definitions of this crate, in the order to read them.
 pub mod Outputs
 pub mod Plain

@@ -4,7 +4,7 @@ use Rattle.std.specs.Str.Lines.{lines}
 use Rattle.io_ports.specs.Shelf.{Grows}
 use Rattle.word_text.specs.declared.fault.Section.TheVariants.{Top}
 use Rattle.word_program.specs.Program.{Source}
-use Rattle.word_program.specs.Copy.{copy_form}
+use Rattle.search_top.specs.Copy.{copy_form}
 use Rattle.word_program.specs.Walk.{place_in}
 use Rattle.x86_instr.specs.Listings.{NamedLines}
 use Rattle.x86_meaning.specs.Correct.{IsCorrect}

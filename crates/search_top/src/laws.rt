@@ -1,6 +1,6 @@
 //! A law of the definitions: a function that does nothing, whose contract is the law.
 
-ghost use Rattle.word_program.specs.Copy.{IsCopy};
+ghost use Rattle.search_top.specs.Copy.{IsCopy};
 ghost use Rattle.word_program.specs.Program.{Source};
 ghost use Rattle.x86_meaning.specs.Correct.{IsCorrect};
 ghost use Rattle.search_top.specs.Plain.{plain_lines};

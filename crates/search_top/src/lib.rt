@@ -9,6 +9,7 @@
 #![tactic(auto)]
 
 mod commands;
+mod copy;
 mod cost;
 mod emulate_command;
 mod emulation;

@@ -1,6 +1,6 @@
 ghost use Rattle.std.specs.Prelude.{◌≡◌, [], ◌∷◌, ◌++◌, IfOk, IfErr, codes, decimal, string_bytes};
 ghost use Rattle.word_text.specs.declared.fault.Section.TheVariants.{Top};
-ghost use Rattle.word_program.specs.Copy.{IsCopy};
+ghost use Rattle.search_top.specs.Copy.{IsCopy};
 ghost use Rattle.word_program.specs.Walk.{place_in};
 ghost use Rattle.x86_meaning.specs.Correct.{IsCorrect};
 ghost use Rattle.asm_text.specs.Assembly.{text_of};
@@ -9,11 +9,12 @@ ghost use Rattle.command_frame.specs.Files as files;
 ghost use Rattle.search_top.specs.Plain.{plain_lines, plain_listing};
 ghost use Rattle.search_top.specs.Search.{ReadsBack, SearchMeans, SearchRefuses, opening_text};
 
+use crate::copy::copy_form;
 use crate::{cost, plain};
 use asm_text::write;
 use command_frame::Status;
 use std::alloc::{AllocError, Global};
-use word_program::{Place, Program, Section, copy_form};
+use word_program::{Place, Program, Section};
 
 /// The opening of a search: a program's plain listing.
 #[derive(Drop)]

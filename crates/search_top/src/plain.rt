@@ -1,6 +1,6 @@
 ghost use Rattle.std.specs.Prelude.{◌≡◌, ℕ, ◌+◌, ◌*◌, ◌^◌, ◌<◌, ◌≤◌, [], ◌∷◌, ◌++◌, length, pos, true, IfOk, OnOk};
 ghost use Rattle.base.specs.Identifiers.{is_identifier};
-ghost use Rattle.word_program.specs.Copy.{IsCopy};
+ghost use Rattle.search_top.specs.Copy.{IsCopy};
 ghost use Rattle.x86_meaning.specs.Correct.{IsCorrect};
 ghost use Rattle.search_top.specs.Plain as spec;
 

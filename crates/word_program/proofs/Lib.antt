@@ -10,7 +10,6 @@ pub mod AcceptedLemmas
 pub mod InputLemmas
 pub mod InputWords
 pub mod BitLemmas
-pub mod CopyLemmas
 pub mod OperandKept
 pub mod OpsKept
 pub mod WrittenKept

@@ -108,6 +108,14 @@ three (Shrd n) e = absurd (cc)
 abbrev read_as : Scope → List ℕ → Operand
 read_as s text = operand_or (operand_of s text)
 
+-- none of these arguments, of which the first has this number, breaks a rule
+abbrev ArgumentsPass : Scope → ℕ → Kind → ℕ → List (List ℕ) → Type 0
+ArgumentsPass s i kind n texts = walk (argument_fault s i kind) (λ u text. u) tt n texts ≡ None
+
+-- the operand at this place, where there is one, is a shift count
+abbrev pub IsShiftAt : List Operand → ℕ → Type 0
+IsShiftAt operands place = IfSome (slice_get operands place) (λ o. IsTrue (is_shift o))
+
 -- what an argument keeps that breaks no rule
 record IsArgument (s : Scope) (kind : Kind) (place : ℕ) (text : List ℕ) : Type 0 where
   is : IsOperand s.params (length s.names) (read_as s text)
@@ -140,7 +148,7 @@ argument_kept s kind place text all none =
     }
 
 arguments_kept : (s : Scope) (i : ℕ) (kind : Kind) (texts : List (List ℕ)) (n : ℕ) → AllByRecursion IsParam s.params
-    → walk (argument_fault s i kind) (λ u text. u) tt n texts ≡ None
+    → ArgumentsPass s i kind n texts
     → AllByRecursion (IsOperand s.params (length s.names)) (map (read_as s) texts)
 arguments_kept s i kind [] n all none = tt
 arguments_kept s i kind (text ∷ texts) n all none =
@@ -153,7 +161,7 @@ arguments_kept s i kind (text ∷ texts) n all none =
 -- the argument at a place
 argument_at : (s : Scope) (i : ℕ) (kind : Kind) (texts : List (List ℕ)) (n j : ℕ) (d : Operand)
     → AllByRecursion IsParam s.params
-    → walk (argument_fault s i kind) (λ u text. u) tt n texts ≡ None → j < length texts
+    → ArgumentsPass s i kind n texts → j < length texts
     → (text : List ℕ) × IsArgument s kind (n + j) text × (slice_get (map (read_as s) texts) j ≡ Some (read_as s text))
     × (slice_index_or (map (read_as s) texts) j d ≡ read_as s text)
 argument_at s i kind [] n j d all none lt = absurd (omega arith)
@@ -190,8 +198,7 @@ count_passes s kind place text none =
     needed (needs_shift kind place) (is_shift (read_as s text)) r.2
 
 count_at : (s : Scope) (i : ℕ) (kind : Kind) (texts : List (List ℕ)) (n j : ℕ)
-    → walk (argument_fault s i kind) (λ u text. u) tt n texts ≡ None
-    → needs_shift kind (n + j) ≡ true → IfSome (slice_get (map (read_as s) texts) j) (λ o. IsTrue (is_shift o))
+    → ArgumentsPass s i kind n texts → needs_shift kind (n + j) ≡ true → IsShiftAt (map (read_as s) texts) j
 count_at s i kind [] n j none need = tt
 count_at s i kind (text ∷ texts) n zero none need =
     let r = or_none (argument_fault s i kind tt n text)
@@ -212,9 +219,8 @@ nothing_behind s (text ∷ texts) zero e = absurd (omega arith)
 nothing_behind s (text ∷ texts) (suc j) e = nothing_behind s texts j (omega arith)
 
 counted_by : (s : Scope) (i : ℕ) (kind : Kind) (texts : List (List ℕ)) (b : Bool) → takes_shift kind ≡ b
-    → walk (argument_fault s i kind) (λ u text. u) tt 0 texts ≡ None
-    → length texts ≡ operand_count kind + (if b then 1 else 0)
-    → IfSome (slice_get (map (read_as s) texts) (operand_count kind)) (λ o. IsTrue (is_shift o))
+    → ArgumentsPass s i kind 0 texts → length texts ≡ operand_count kind + (if b then 1 else 0)
+    → IsShiftAt (map (read_as s) texts) (operand_count kind)
 counted_by s i kind texts true has none count =
     count_at s i kind texts 0 (operand_count kind) none
     (ap (needs_shift kind) (zero-add (operand_count kind)) ∙ with_bit kind has)
@@ -224,11 +230,10 @@ counted_by s i kind texts false has none count =
 
 -- where no argument breaks a rule, the one behind the operands is a shift count
 pub counted : (s : Scope) (i : ℕ) (kind : Kind) (texts : List (List ℕ)) (operands : List Operand)
-    → walk (argument_fault s i kind) (λ u text. u) tt 0 texts ≡ None
-    → length texts ≡ argument_count kind → operands ≡ map (λ text. operand_or (operand_of s text)) texts
-    → IfSome (slice_get operands (operand_count kind)) (λ o. IsTrue (is_shift o))
+    → walk (argument_fault s i kind) (λ u text. u) tt 0 texts ≡ None → length texts ≡ argument_count kind
+    → operands ≡ map (λ text. operand_or (operand_of s text)) texts → IsShiftAt operands (operand_count kind)
 counted s i kind texts operands none count is =
-    subst (λ (xs : List Operand). IfSome (slice_get xs (operand_count kind)) (λ o. IsTrue (is_shift o))) (sym is)
+    subst (λ (xs : List Operand). IsShiftAt xs (operand_count kind)) (sym is)
     (counted_by s i kind texts (takes_shift kind) refl none count)
 
 all_take : {X : Type 0} (P : X → Type 0) (n : ℕ) (xs : List X) → AllByRecursion P xs → AllByRecursion P (take n xs)

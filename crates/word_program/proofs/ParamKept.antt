@@ -210,17 +210,18 @@ params_kept p none =
     let r = or_none _ _ none in
     section_kept Arguments p.arguments _ 0 (section_kept Returns p.returns [] 0 tt r.0) r.1
 
+-- the parameters of a section break no rule and were read behind those that are there
+abbrev IsReadBehind : Section → List Param → List RawParam → List Param → Type 0
+IsReadBehind section ps raws after =
+    (walk (parameter_fault section) (with_param section) ps 0 raws ≡ None) × (after ≡ parameters_in section ps raws)
+
 -- the parameters as they were read, in two steps
-pub params_from : (p : RawProgram) (mid after : List Param)
-    → walk (parameter_fault Returns) (with_param Returns) [] 0 p.returns ≡ None
-    → mid ≡ parameters_in Returns [] p.returns
-    → walk (parameter_fault Arguments) (with_param Arguments) mid 0 p.arguments ≡ None
-    → after ≡ parameters_in Arguments mid p.arguments
-    → AllByRecursion IsParam after
-params_from p mid after none is none' is' =
-    subst (AllByRecursion IsParam) (sym is')
+pub params_from : (p : RawProgram) (mid after : List Param) → IsReadBehind Returns [] p.returns mid
+    → IsReadBehind Arguments mid p.arguments after → AllByRecursion IsParam after
+params_from p mid after returns arguments =
+    subst (AllByRecursion IsParam) (sym arguments.1)
     (section_kept Arguments p.arguments mid 0
-    (subst (AllByRecursion IsParam) (sym is) (section_kept Returns p.returns [] 0 tt none)) none')
+    (subst (AllByRecursion IsParam) (sym returns.1) (section_kept Returns p.returns [] 0 tt returns.0)) arguments.0)
 
 -- as many parameters as parts
 pub section_count : (section : Section) (raws : List RawParam) (ps : List Param)

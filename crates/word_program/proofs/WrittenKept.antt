@@ -80,13 +80,19 @@ parts_of_output params text e =
     let a = bind_some (λ (v : ParamWord). guard (is_output v.role) v) (word_at params text) w.0 w.1 in
     parts_of_word params text a.0 a.1
 
+-- where a result goes that is an identifier, that is `_`, or that is this word
+abbrev goes_to : Bool → Bool → Option ParamWord → Target
+goes_to named unused word = if named then targets.Value else
+    (if unused then targets.Unused else option_map_or (λ (w : ParamWord). targets.Output w.param w.word) word
+    targets.Unused)
+
+-- it was written, or there is no such word
+abbrev is_taken : List Target → Option ParamWord → Bool
+is_taken ts word = option_map_or (λ (w : ParamWord). is_written ts w.param w.word) word true
+
 new_by : (ts : List Target) (param number : ℕ) (a b parts : Bool) (o : Option ParamWord)
-    → (is_some o ≡ true → parts ≡ true)
-    → (not a && (not b && parts)) && option_map_or (λ (w : ParamWord). is_written ts w.param w.word) o true ≡ false
-    → is_at param number (if a then targets.Value else
-    (if b then targets.Unused else option_map_or
-    (λ (w : ParamWord). targets.Output w.param w.word) o targets.Unused)) ≡ true
-    → is_written ts param number ≡ false
+    → (is_some o ≡ true → parts ≡ true) → (not a && (not b && parts)) && is_taken ts o ≡ false
+    → is_at param number (goes_to a b o) ≡ true → is_written ts param number ≡ false
 new_by ts param number true b parts o f rule here = absurd (cc)
 new_by ts param number false true parts o f rule here = absurd (cc)
 new_by ts param number false false parts None f rule here = absurd (cc)
@@ -101,8 +107,7 @@ new_word : (s : Scope) (text : List ℕ) (param number : ℕ) → first_code (re
     → is_at param number (target_of s.params text) ≡ true → is_written s.targets param number ≡ false
 unfolding result_rules target_of
 new_word s text param number none here =
-    let rule14 = is_word_form text && option_map_or (λ (w : ParamWord). is_written s.targets w.param w.word)
-    (output_at s.params text) true in
+    let rule14 = is_word_form text && is_taken s.targets (output_at s.params text) in
     let rule10 = is_identifier text && (is_some (param_named s.params text) || is_some (value_named s.names text)) in
     let r2 = row_passes _ (not (is_identifier text || (is_unused text || is_word_form text)))
     ((_, rule10) ∷ (_, rule14) ∷ []) none in

@@ -5,5 +5,4 @@ pub mod Walk
 pub mod Rules
 pub mod Accepted
 pub mod Evaluates
-pub mod Copy
 pub mod Failing

@@ -10,7 +10,6 @@
 
 mod bits;
 mod body;
-mod copy;
 mod evaluation;
 mod fault_laws;
 mod inputs;
@@ -24,11 +23,11 @@ mod params;
 mod program;
 mod scope;
 
-pub use copy::copy_form;
 pub use evaluation::{EvalFault, check_inputs, eval};
 pub use fault_laws::{first_fault_is_first, without_fault_nothing_fails};
 pub use laws::{bits_are_zero_or_one, values_are_words};
 pub use limits::MAX_VALUES;
+pub use lookup::{is_input_array, is_output};
 pub use operation::{Op, Operand, OperandList, Target, TargetList};
 pub use parameter::{Bounds, BoundsList, Param, Role};
 pub use program::Program;

@@ -45,10 +45,10 @@ pub fn scalar_at(params: &[Param], name: &str) -> Option<Operand>
     ensures { result ≡ spec.scalar_at params.now name.now }
 {
     let number = param_named(params, name)?;
-    let param = params.get(number as usize)?;
+    let param = params.get(number)?;
     if is_scalar(param.role) {
         Some(Operand::Input {
-            param: number,
+            param: number as u8,
             word: 0,
         })
     } else {

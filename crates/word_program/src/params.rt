@@ -152,21 +152,12 @@ fn bounds_of(
     Ok(Some(bounds))
 }
 
-fn first_named(params: &[Param], name: &str) -> Option<usize>
+/// The number of the parameter of this name.
+pub fn param_named(params: &[Param], name: &str) -> Option<usize>
     ensures value { result ≡ spec.param_named params.now name.now }
     ensures within { IfSome result (λ n. n < length params.now) }
 {
     params.iter().position(|param| param.name.as_str() == name)
-}
-
-/// The number of the parameter of this name.
-pub fn param_named(params: &[Param], name: &str) -> Option<u8>
-    requires { length params.now ≤ MAX_PARAMS }
-    ensures value { result ≡ spec.param_named params.now name.now }
-    ensures within { IfSome result (λ n. n < length params.now) }
-{
-    let number = first_named(params, name)?;
-    Some(number as u8)
 }
 
 /// The word `name[index]` of a parameter.
@@ -178,11 +169,11 @@ pub fn word_at(params: &[Param], text: &str) -> Option<ParamWord>
 {
     let (name, index) = word_parts(text)?;
     let number = param_named(params, name)?;
-    let param = params.get(number as usize)?;
+    let param = params.get(number)?;
     let word = index_below(index, param.bounds.items().len())?;
     Some(ParamWord {
         role: param.role,
-        param: number,
+        param: number as u8,
         word: word as u8,
     })
 }

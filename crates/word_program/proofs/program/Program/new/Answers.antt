@@ -16,7 +16,7 @@ missing-requires-clause-params c =
     (with_param Arguments) c.parameters.new.params 0 c.args.parts.now.arguments ≡ None = search rules in
     let is2 : c.items-5.result.now ≡ parameters_in Arguments c.parameters.new.params c.args.parts.now.arguments =
     search rules in
-    params_from c.args.parts.now _ _ none is none2 is2
+    params_from c.args.parts.now _ _ (none, is) (none2, is2)
 
 pub invariant_of-result : goal.invariant_of-result
 unfolding first_fault program_of
@@ -40,4 +40,4 @@ read_body-requires-clause-params c =
     (with_param Arguments) c.parameters.new.params 0 c.args.parts.now.arguments ≡ None = search rules in
     let is2 : c.items-3.result.now ≡ parameters_in Arguments c.parameters.new.params c.args.parts.now.arguments =
     search rules in
-    params_from c.args.parts.now _ _ none is none2 is2
+    params_from c.args.parts.now _ _ (none, is) (none2, is2)

@@ -1,8 +1,8 @@
 -- A program that has the form of a copy is one.
 use Rattle.std.proofs.Common.{◌≡◌, Some, rules}
-use Rattle.word_program.specs.Copy.{copy_form}
-use Rattle.word_program.proofs.CopyLemmas.{copy_is}
-use Rattle.word_program.proofs.copy.copy_form.Goals as goal
+use Rattle.search_top.specs.Copy.{copy_form}
+use Rattle.search_top.proofs.CopyLemmas.{copy_is}
+use Rattle.search_top.proofs.copy.copy_form.Goals as goal
 
 pub returns-then-words-le-MAX_ARRAY_WORDS-clause-copy : goal.returns-then-words-le-MAX_ARRAY_WORDS-clause-copy
 unfolding copy_form

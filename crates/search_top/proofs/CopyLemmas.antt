@@ -19,8 +19,8 @@ use Rattle.word_program.specs.declared.operation.Target.{Target}
 use Rattle.word_program.specs.declared.operation.Target.TheVariants as targets
 use Rattle.word_program.specs.Program.{Source, full}
 use Rattle.word_program.specs.Values.{is_output, is_input_array}
-use Rattle.word_program.specs.Copy.{copy_params, copy_ops, IsCopy, is_full, copied_words, is_copy_kind, read_word}
-use Rattle.word_program.specs.Copy.{writes_first, copied_index, copy_form}
+use Rattle.search_top.specs.Copy.{copy_params, copy_ops, IsCopy, is_full, copied_words, is_copy_kind, read_word}
+use Rattle.search_top.specs.Copy.{writes_first, copied_index, copy_form}
 use Rattle.base.proofs.Options.{bind_some, guard_some}
 use Rattle.word_program.proofs.RowLemmas.{and_true, not_true}
 

@@ -1,14 +1,10 @@
 ghost use Rattle.std.specs.Prelude.{◌≡◌, OnSome};
 ghost use Rattle.std.specs.List.{list_all};
-ghost use Rattle.word_program.specs.Copy as spec;
-ghost use Rattle.word_program.specs.Copy.{IsCopy};
+ghost use Rattle.search_top.specs.Copy as spec;
+ghost use Rattle.search_top.specs.Copy.{IsCopy};
 
-use crate::lookup::{is_input_array, is_output};
-use crate::operation::{Op, Operand, Target};
-use crate::parameter::{Bounds, Param};
-use crate::program::Program;
 use base::MAX_ARRAY_WORDS;
-use word_operations::Kind;
+use word_program::{Bounds, Kind, Op, Operand, Param, Program, Target, is_input_array, is_output};
 
 fn is_full(bounds: Bounds) -> bool
     ensures { result ≡ spec.is_full bounds }
