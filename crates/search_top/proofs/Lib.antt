@@ -1,5 +1,5 @@
-pub mod CopyLemmas
 -- The lemmas of this crate.
+pub mod CopyLemmas
 pub mod CopyIsCorrect
 pub mod OutputWords
 pub mod StatedOutputs

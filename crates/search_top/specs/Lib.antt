@@ -1,5 +1,5 @@
-pub mod Copy
 -- The definitions of this crate, in the order to read them.
+pub mod Copy
 pub mod Outputs
 pub mod Plain
 pub mod Cost

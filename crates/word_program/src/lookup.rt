@@ -13,29 +13,20 @@ use crate::params::{ParamWord, param_named, word_at};
 pub fn is_output(role: Role) -> bool
     ensures { result ≡ values.is_output role }
 {
-    match role {
-        Role::Output => true,
-        Role::InputArray | Role::InputScalar => false,
-    }
+    matches!(role, Role::Output)
 }
 
 /// Whether words of this role are read from an array.
 pub fn is_input_array(role: Role) -> bool
     ensures { result ≡ values.is_input_array role }
 {
-    match role {
-        Role::InputArray => true,
-        Role::Output | Role::InputScalar => false,
-    }
+    matches!(role, Role::InputArray)
 }
 
 fn is_scalar(role: Role) -> bool
     ensures { result ≡ values.is_scalar role }
 {
-    match role {
-        Role::InputScalar => true,
-        Role::Output | Role::InputArray => false,
-    }
+    matches!(role, Role::InputScalar)
 }
 
 /// The scalar of this name.
