@@ -1,11 +1,8 @@
 -- No evaluation leaves the intervals: the operands, and then along the operations.
-use Rattle.std.proofs.Common.{◌≡◌, ℕ, zero, suc, ◌+◌, ◌<◌, Bool, true, false, List, [], ◌∷◌, ◌++◌, length, map, get_or}
-use Rattle.std.proofs.Common.{take, sym, ◌∙◌, subst, arith}
-use Rattle.std.specs.Prelude.{fold, slice_get, slice_index, slice_index_or, IsSomeAnd, IsFalse, if◌then◌else◌}
-use Rattle.std.specs.List.{sum_by, AllByRecursion}
-use Rattle.std.proofs.lemmas.List.{get_or_append_left, get_or-append-add, length-append}
-use Rattle.std.proofs.lemmas.Bool.{true≢false}
-use Rattle.std.proofs.lemmas.List.Sums.{sum_by-cons}
+use Rattle.std.proofs.Common.{ℕ, zero, suc, ◌+◌, ◌<◌, Bool, List, [], ◌∷◌, ◌++◌, length, map, get_or}
+use Rattle.std.proofs.Common.{arith}
+use Rattle.std.specs.Prelude.{fold, slice_index, slice_index_or}
+use Rattle.std.specs.List.{AllByRecursion}
 use Rattle.base.proofs.Arithmetic.{not_below_zero}
 use Rattle.word_program.specs.declared.parameter.Bounds.{Bounds}
 use Rattle.word_program.specs.declared.parameter.Param.{Param}
@@ -14,96 +11,21 @@ use Rattle.word_program.specs.declared.operation.Operand.{Operand}
 use Rattle.word_program.specs.declared.operation.Operand.TheVariants as operands
 use Rattle.word_program.specs.Program as programs
 use Rattle.word_program.specs.Program.{Source}
-use Rattle.word_program.specs.Values.{is_output, input_words, input_bounds, word_bounds, AreWithin, operand_word}
+use Rattle.word_program.specs.Values.{input_word, input_bounds, word_bounds, AreWithin, operand_word}
 use Rattle.word_program.specs.Values.{op_words, values_on, op_bits}
 use Rattle.word_program.specs.Accepted.{AreBounds, IsParam, IsOperand, IsOp, AreOps, HasShift, IsAccepted}
+use Rattle.word_program.proofs.InputWords.{IsInputWord, all_bounds, input_within}
 use Rattle.bounds.specs.declared.interval.Interval.{Interval}
 use Rattle.bounds.specs.Intervals.{full, between, operand_interval, op_intervals, intervals_of}
 use Rattle.bounds.specs.Soundness.{IsOrdered, HoldValues}
 use Rattle.bounds.proofs.TableLemmas.{Lies, LieAll, lies_in, lies_at, lie_append, row}
 
--- ---- input words
-
--- what a parameter adds to the bounds of the input words
-abbrev piece : Bool → List Bounds → List Bounds
-piece output bounds = if output then [] else bounds
-
-all_append : (xs ys : List Bounds) → AllByRecursion AreBounds xs → AllByRecursion AreBounds ys
-    → AllByRecursion AreBounds (xs ++ ys)
-all_append [] ys t u = u
-all_append (x ∷ xs) ys t u = (t.0, all_append xs ys t.1 u)
-
-piece_bounds : (output : Bool) (bounds : List Bounds) → AllByRecursion AreBounds bounds
-    → AllByRecursion AreBounds (piece output bounds)
-piece_bounds true bounds t = tt
-piece_bounds false bounds t = t
-
-all_bounds : (ps : List Param) → AllByRecursion IsParam ps → AllByRecursion AreBounds (input_bounds ps)
-all_bounds [] t = tt
-all_bounds (p ∷ ps) t = all_append (piece (is_output p.role) p.bounds) (input_bounds ps)
-    (piece_bounds (is_output p.role) p.bounds t.0.bounds) (all_bounds ps t.1)
-
--- an input word lies in the bounds at its place
-within_at : (xs : List ℕ) (bs : List Bounds) → AreWithin xs bs → AllByRecursion AreBounds bs → (n : ℕ) → n < length bs
-    → Lies (slice_index xs n) (between (slice_index_or bs n programs.full))
-within_at [] [] w t n h = absurd (not_below_zero n h)
-within_at [] (b ∷ bs) w t n h = absurd w
-within_at (x ∷ xs) [] w t n h = absurd w
-within_at (x ∷ xs) (b ∷ bs) w t zero h = record { low = w.0; high = w.1; word = omega (arith, t.0.word) }
-within_at (x ∷ xs) (b ∷ bs) w t (suc n) h = within_at xs bs w.2 t.1 n (omega arith)
-
--- the place of a word of an input parameter among all input words
-abbrev place : List Param → ℕ → ℕ → ℕ
-place ps param word = sum_by input_words (take param ps) + word
-
--- a word of a parameter
-abbrev IsWord : List Param → ℕ → ℕ → Type 0
-IsWord ps param word = IsSomeAnd (slice_get ps param) (λ p. IsFalse (is_output p.role) × (word < length p.bounds))
-
--- there are its bounds among the bounds of all input words
-record IsPlace (ps : List Param) (param word : ℕ) : Type 0 where
-  within : place ps param word < length (input_bounds ps)
-  same : slice_index_or (input_bounds ps) (place ps param word) programs.full ≡ word_bounds ps param word
-
-first_place : (output : Bool) (bounds rest : List Bounds) (word n : ℕ) → n ≡ word → output ≡ false
-    → word < length bounds → (n < length (piece output bounds ++ rest))
-    × (slice_index_or (piece output bounds ++ rest) n programs.full ≡ slice_index_or bounds word programs.full)
-first_place true bounds rest word n e o h = absurd (true≢false o)
-first_place false bounds rest word n e o h =
-    subst (λ m. (m < length (bounds ++ rest))
-    × (slice_index_or (bounds ++ rest) m programs.full ≡ slice_index_or bounds word programs.full)) (sym e)
-    (omega (arith, length-append bounds rest), get_or_append_left bounds rest programs.full word h)
-
-later_place : (output : Bool) (bounds rest : List Bounds) (n m : ℕ) (b : Bounds)
-    → m ≡ (if output then 0 else length bounds) + n → n < length rest → slice_index_or rest n programs.full ≡ b
-    → (m < length (piece output bounds ++ rest)) × (slice_index_or (piece output bounds ++ rest) m programs.full ≡ b)
-later_place true bounds rest n m b e h s = let q : m ≡ n = omega (arith, e) in
-    subst (λ k. (k < length rest) × (slice_index_or rest k programs.full ≡ b)) (sym q) (h, s)
-later_place false bounds rest n m b e h s =
-    subst (λ k. (k < length (bounds ++ rest)) × (slice_index_or (bounds ++ rest) k programs.full ≡ b)) (sym e)
-    (omega (arith, length-append bounds rest, h), get_or-append-add bounds rest n programs.full ∙ s)
-
-is_place : (ps : List Param) (param word : ℕ) → IsWord ps param word → IsPlace ps param word
-is_place [] param word h = absurd h
-is_place (p ∷ ps) zero word h =
-    let r = first_place (is_output p.role) p.bounds (input_bounds ps) word (place (p ∷ ps) zero word)
-    (omega arith) h.0 h.1 in
-    record { within = r.0; same = r.1 }
-is_place (p ∷ ps) (suc param) word h =
-    let q : IsPlace ps param word = is_place ps param word h in
-    let s : sum_by input_words (p ∷ take param ps) ≡ input_words p + sum_by input_words (take param ps) =
-    sum_by-cons input_words p (take param ps) in
-    let r = later_place (is_output p.role) p.bounds (input_bounds ps) (place ps param word)
-    (place (p ∷ ps) (suc param) word) (word_bounds ps param word) (omega (arith, s)) q.within q.same in
-    record { within = r.0; same = r.1 }
-
+-- a word of an input parameter lies within its bounds
 input_lies : (ps : List Param) (xs : List ℕ) → AreWithin xs (input_bounds ps) → AllByRecursion IsParam ps
-    → (param word : ℕ) → IsWord ps param word
-    → Lies (slice_index xs (place ps param word)) (between (word_bounds ps param word))
-input_lies ps xs w t param word h =
-    let q = is_place ps param word h in
-    subst (λ b. Lies (slice_index xs (place ps param word)) (between b)) q.same
-    (within_at xs (input_bounds ps) w (all_bounds ps t) (place ps param word) q.within)
+    → (param word : ℕ) → IsInputWord ps param word
+    → Lies (input_word ps xs param word) (between (word_bounds ps param word))
+input_lies ps xs w t param word h = let q = input_within ps xs w t param word h in
+    record { low = q.low; high = q.high; word = omega (arith, q.most) }
 
 -- ---- along the operations
 
