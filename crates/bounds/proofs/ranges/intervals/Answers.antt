@@ -1,5 +1,5 @@
 -- What every program keeps of its operations, and the three promises from the list that is exact.
-use Rattle.std.proofs.Common.{◌≡◌, ◌<◌, [], length, get_or, sym, subst, arith}
+use Rattle.std.proofs.Common.{◌≡◌, ◌<◌, [], length, get_or, refl, sym, ◌∙◌, subst, arith, rules, add-one, drop-cons}
 use Rattle.std.proofs.lemmas.Grind.{common_steps}
 use Rattle.std.specs.List.{AllByRecursion}
 use Rattle.word_program.specs.Accepted.{HasShift}
@@ -7,6 +7,23 @@ use Rattle.bounds.specs.Intervals.{intervals_of}
 use Rattle.bounds.specs.Soundness.{IsOrdered, HoldValues}
 use Rattle.bounds.proofs.Soundness.{intervals_hold, intervals_ordered, count_at}
 use Rattle.bounds.proofs.ranges.intervals.Goals as goal
+
+pub loop-op-init : goal.loop-op-init
+loop-op-init c = rw c.new-list.ensures.items refl
+
+pub loop-op-preserved : goal.loop-op-preserved
+loop-op-preserved c =
+    let program = c.args.program.now in
+    let within = subst (λ ops. c.loop-op.op-index < length ops) c.ops-op-items.ensures.ops c.loop-op-test.true in
+    let is : c.op-item.result ≡ get_or program.ops c.loop-op.op-index c.op-item.result = search rules in
+    c.loop-op.invariant
+    ∙ rw (
+      c.in_ok-push_op.ensures,
+      c.params-params.ensures.params,
+      add-one,
+      drop-cons program.ops c.loop-op.op-index c.op-item.result,
+      ← is,
+    ) refl
 
 pub push_op-requires : goal.push_op-requires
 push_op-requires c =
