@@ -1,6 +1,5 @@
 -- No evaluation leaves the intervals: the operands, and then along the operations.
-use Rattle.std.proofs.Common.{ℕ, zero, suc, ◌+◌, ◌<◌, Bool, List, [], ◌∷◌, ◌++◌, length, map, get_or}
-use Rattle.std.proofs.Common.{arith}
+use Rattle.std.proofs.Common.{ℕ, zero, suc, ◌<◌, Bool, List, [], ◌∷◌, ◌++◌, length, map, get_or, arith}
 use Rattle.std.specs.Prelude.{fold, slice_index, slice_index_or}
 use Rattle.std.specs.List.{AllByRecursion}
 use Rattle.base.proofs.Arithmetic.{not_below_zero}
@@ -9,7 +8,6 @@ use Rattle.word_program.specs.declared.parameter.Param.{Param}
 use Rattle.word_program.specs.declared.operation.Op.{Op}
 use Rattle.word_program.specs.declared.operation.Operand.{Operand}
 use Rattle.word_program.specs.declared.operation.Operand.TheVariants as operands
-use Rattle.word_program.specs.Program as programs
 use Rattle.word_program.specs.Program.{Source}
 use Rattle.word_program.specs.Values.{input_word, input_bounds, word_bounds, AreWithin, operand_word}
 use Rattle.word_program.specs.Values.{op_words, values_on, op_bits}
