@@ -21,7 +21,7 @@ use Rattle.word_program.specs.Values.{is_at, input_bounds}
 use Rattle.word_program.proofs.InputLemmas.{inputs_limit}
 use Rattle.std.specs.Prelude.{count_by}
 use Rattle.word_program.proofs.ParamKept.{params_kept, params_count}
-use Rattle.word_program.proofs.ParamOrder.{first_output, outputs_before, names_distinct}
+use Rattle.word_program.proofs.ParamOrder.{first_output, outputs_first, names_distinct}
 use Rattle.word_program.proofs.SomeOps.{some_number, some_ops}
 use Rattle.word_program.proofs.BodyLemmas.{ops_count, IsScope, scope_fact, targets_count}
 
@@ -71,7 +71,7 @@ accepted p none =
       params = params_kept p b.0;
       names = names_distinct p b.0;
       some_output = output;
-      outputs_first = outputs_before p b.0;
+      outputs_first = outputs_first p b.0;
       ops_limit = subst (λ (n : ℕ). n ≤ 2048)
           (sym (ops_count p.body (start (params_of p)) ∙ zero-add (length p.body))) top.ops;
       values_limit = subst (λ (ts : List Target). length ts ≤ 4096) kept.targets_kept few;

@@ -25,7 +25,7 @@ use Rattle.word_program.specs.Walk.{first_code, walk, place_in}
 use Rattle.word_program.specs.Rules.{scalar_of, scalar_named, array_of, datatype_of, no_datatype, param_named}
 use Rattle.word_program.specs.Rules.{parameter_rules, parameter_fault, param_of, with_param, parameters_in, params_of}
 use Rattle.word_program.specs.Rules.{params_fault}
-use Rattle.word_program.specs.Accepted.{IsOutputParam}
+use Rattle.word_program.specs.Accepted.{IsOutputParam, AreOutputsFirst}
 use Rattle.word_program.proofs.RowLemmas.{at_none, or_none, some_of}
 use Rattle.word_program.proofs.ParamKept.{parameter_passes}
 
@@ -100,25 +100,20 @@ arguments_in (raw ∷ raws) ps n none =
     (at_none (place_in Arguments n 0) (parameter_rules Arguments ps raw) r.0) in
     (param_in raw d.datatype d.known, arguments_in raws (with_param Arguments ps raw) (n + 1) r.1)
 
-no_output : (ins : List Param) → AllByRecursion IsIn ins → (n : ℕ) → IsOutputParam ins n → ⊥
-no_output [] t n h = h
-no_output (p ∷ ps) t zero h = absurd (true≢false (sym h ∙ t.0))
-no_output (p ∷ ps) t (suc n) h = no_output ps t.1 n h
+inputs_last : (ins : List Param) → AllByRecursion IsIn ins → AreOutputsFirst ins
+inputs_last [] t = tt
+inputs_last (p ∷ ps) t = (λ e. t.1, inputs_last ps t.1)
 
--- what stands before an output is one
-before_output : (outs ins : List Param) → AllByRecursion IsOut outs → AllByRecursion IsIn ins → (m n : ℕ) → m < n
-    → IsOutputParam (outs ++ ins) n → IsOutputParam (outs ++ ins) m
-before_output [] ins t u m n lt h = absurd (no_output ins u n h)
-before_output (p ∷ ps) ins t u zero n lt h = t.0
-before_output (p ∷ ps) ins t u (suc m) zero lt h = absurd (omega arith)
-before_output (p ∷ ps) ins t u (suc m) (suc n) lt h = before_output ps ins t.1 u m n (omega arith) h
+-- outputs, and then inputs
+in_order : (outs ins : List Param) → AllByRecursion IsOut outs → AllByRecursion IsIn ins → AreOutputsFirst (outs ++ ins)
+in_order [] ins t u = inputs_last ins u
+in_order (p ∷ ps) ins t u = (λ e. absurd (true≢false (sym t.0 ∙ e)), in_order ps ins t.1 u)
 
-pub outputs_before : (p : RawProgram) → params_fault p ≡ None → (m n : ℕ) → m < n → IsOutputParam (params_of p) n
-    → IsOutputParam (params_of p) m
-outputs_before p none =
+pub outputs_first : (p : RawProgram) → params_fault p ≡ None → AreOutputsFirst (params_of p)
+outputs_first p none =
     let r = or_none _ _ none in
-    subst (λ ps. (m n : ℕ) → m < n → IsOutputParam ps n → IsOutputParam ps m) (sym (params_behind p))
-    (before_output (map (param_of Returns) p.returns) (map (param_of Arguments) p.arguments) (returns_out p.returns)
+    subst AreOutputsFirst (sym (params_behind p))
+    (in_order (map (param_of Returns) p.returns) (map (param_of Arguments) p.arguments) (returns_out p.returns)
     (arguments_in p.arguments _ 0 r.1))
 
 first_of_returns : (returns arguments : List RawParam) → 1 ≤ length returns

@@ -95,15 +95,21 @@ IsOutputWord params param word = IsTarget params (targets.Output param word)
 abbrev pub IsOutputParam : List Param → ℕ → Type 0
 IsOutputParam params number = IsSomeAnd (slice_get params number) (λ p. IsTrue (is_output p.role))
 
+-- behind an input stand inputs alone
+abbrev pub AreOutputsFirst : List Param → Type 0
+AreOutputsFirst [] = Unit {0}
+AreOutputsFirst (p ∷ ps) =
+    (IsFalse (is_output p.role) → AllByRecursion (λ q. IsFalse (is_output q.role)) ps) × AreOutputsFirst ps
+
 pub record IsAccepted (source : Source) : Type 0 where
   pub name : IsTrue (is_identifier source.name)
   pub params_limit : length source.params ≤ MAX_PARAMS
   pub params : AllByRecursion IsParam source.params
   -- no two parameters have the same name
   pub names : IsDistinct bytes_eq (map (λ p. p.name) source.params)
-  -- there is an output, and each parameter before an output is one
+  -- the first parameter is an output, and outputs stand before inputs
   pub some_output : IsOutputParam source.params 0
-  pub outputs_first : (m n : ℕ) → m < n → IsOutputParam source.params n → IsOutputParam source.params m
+  pub outputs_first : AreOutputsFirst source.params
   pub some_ops : 1 ≤ length source.ops
   pub ops_limit : length source.ops ≤ MAX_OPERATIONS
   pub values_limit : length (targets_of source.ops) ≤ MAX_VALUES
