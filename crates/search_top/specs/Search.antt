@@ -2,6 +2,7 @@
 use Rattle.std.specs.Prelude.{◌≡◌, ℕ, List, [], ◌∷◌, ◌++◌, codes, decimal, None, IfSome, IsSome}
 use Rattle.std.specs.Str.Lines.{lines}
 use Rattle.io_ports.specs.Shelf.{Grows}
+use Rattle.word_text.specs.declared.codes.TheConstants.{OPERATION}
 use Rattle.word_text.specs.declared.fault.Section.TheVariants.{Top}
 use Rattle.word_program.specs.Program.{Source}
 use Rattle.search_top.specs.Copy.{copy_form}
@@ -39,9 +40,9 @@ abbrev pub SearchMeans : List Content → Output → Type 0
 SearchMeans (Program program ∷ []) output = IsOpening program output
 SearchMeans contents output = ⊥
 
--- a program that is no copy of one word is not searched yet, which is code 7 at the program as a whole
+-- a program that is no copy of one word is not searched yet: its operations, at the program as a whole, are refused
 abbrev pub SearchRefuses : List Content → Status → Type 0
-SearchRefuses (Program program ∷ []) (statuses.Program code place) = (copy_form program ≡ None) × (code ≡ 7)
+SearchRefuses (Program program ∷ []) (statuses.Program code place) = (copy_form program ≡ None) × (code ≡ OPERATION)
     × (place ≡ place_in Top 0 0)
 SearchRefuses contents status = ⊥
 

@@ -1,4 +1,5 @@
 ghost use Rattle.std.specs.Prelude.{◌≡◌, [], ◌∷◌, ◌++◌, IfOk, IfErr, codes, decimal, string_bytes};
+ghost use Rattle.word_text.specs.declared.codes.TheConstants.{OPERATION};
 ghost use Rattle.word_text.specs.declared.fault.Section.TheVariants.{Top};
 ghost use Rattle.search_top.specs.Copy.{IsCopy};
 ghost use Rattle.word_program.specs.Walk.{place_in};
@@ -14,7 +15,7 @@ use crate::{cost, plain};
 use asm_text::write;
 use command_frame::Status;
 use std::alloc::{AllocError, Global};
-use word_program::{Place, Program, Section};
+use word_program::{Place, Program, Section, codes};
 
 /// The opening of a search: a program's plain listing.
 #[derive(Drop)]
@@ -42,14 +43,14 @@ pub fn opening_of(alloc: Global, program: &Program) -> Result<Opening, Status>
 
 /// The fault of a program that `search` does not take yet.
 fn not_searched() -> Status
-    ensures { result ≡ Status.Program 7 (place_in Top 0 0) }
+    ensures { result ≡ Status.Program OPERATION (place_in Top 0 0) }
 {
     let place = Place {
         section: Section::Top,
         item: 0,
         inner: 0,
     };
-    Status::Program(7, place)
+    Status::Program(codes::OPERATION, place)
 }
 
 fn plain_opening(alloc: Global, program: &Program) -> Result<Opening, AllocError>
