@@ -181,15 +181,18 @@ module _ (load : Load) (content : Content) (a b c : View) (loads : Loads load co
   cause_before : (other : Load) (status : Status) → FailsToLoad other (between b c) status
       → FailsToLoad other (between a c) status
   cause_before other (statuses.ReadFault name) cause = (cause.0, rose_before cause.1)
-  cause_before other (statuses.TooLong name most) cause =
-      (cause.0, cause.1, held_before (λ told. IfSome told (λ bytes. limit_of other.format < length bytes)) other.name
-          cause.2)
+  cause_before other (statuses.TooLong name most) cause = (
+    cause.0,
+    cause.1,
+    held_before (λ told. IfSome told (λ bytes. limit_of other.format < length bytes)) other.name
+        cause.2,
+  )
   cause_before other status cause = held_before (λ told. RefusesFile status other.format told) other.name cause
 
   stops_before : (made : ℕ) (stores : List (List ℕ)) (output : Output) (name : List ℕ)
       → StopsAtStore made stores output (between b c) name ⊎ StopsAtOutput made stores output (between b c) name
       → StopsAtStore (suc made) stores output (between a c) name
-          ⊎ StopsAtOutput (suc made) stores output (between a c) name
+      ⊎ StopsAtOutput (suc made) stores output (between a c) name
   stops_before made stores output name (inl s) = inl (record {
     place = s.place;
     stands = s.stands;

@@ -101,29 +101,34 @@ module _ (name output input : List ℕ) (words index : ℕ) (within : index < wo
                                   k2,
                                   on_load (later cf of zf w w rsp r11 c2) _ (address_of first 24 Frame 0) r7 _ _
                                       (omega arith) held0 (
-                                    k2,
-                                    on_store (later cf of zf w w rsp r7 c2) _ (address_of first 24 (Array 0) 0) w _
-                                        (omega arith)
-                                        (written_there program lines inputs first start c2 (Array 0) 0 k2
+                                        k2,
+                                        on_store (later cf of zf w w rsp r7 c2) _ (address_of first 24 (Array 0) 0) w _
+                                            (omega arith)
+                                            (written_there program lines inputs first start c2 (Array 0) 0 k2
                                             (omega arith)) (
-                                          k3,
-                                          record {
-                                            outputs = one_output (λ param word. map.get c3
-                                                (address_of first 24 (Array param) word) ≡ Some
-                                                (output_word program inputs param word)) output input words
-                                                (get_put_same c2 (address_of first 24 (Array 0) 0) w);
-                                            registers = (
-                                              refl {a = r3},
-                                              (
-                                                refl {a = r5},
-                                                (refl {a = r12}, (refl {a = r13},
-                                                    (refl {a = r14}, (refl {a = r15}, (omega arith, tt))))),
-                                              ),
-                                            );
-                                            keeps = k3;
-                                          },
-                                        ),
-                                  ),
+                                              k3,
+                                              record {
+                                                outputs = one_output (λ param word. map.get c3
+                                                    (address_of first 24 (Array param) word) ≡ Some
+                                                    (output_word program inputs param word)) output input words
+                                                    (get_put_same c2 (address_of first 24 (Array 0) 0) w);
+                                                registers = (
+                                                  refl {a = r3},
+                                                  (
+                                                    refl {a = r5},
+                                                    (
+                                                      refl {a = r12},
+                                                      (
+                                                        refl {a = r13},
+                                                        (refl {a = r14}, (refl {a = r15}, (omega arith, tt))),
+                                                      ),
+                                                    ),
+                                                  ),
+                                                );
+                                                keeps = k3;
+                                              },
+                                            ),
+                                      ),
                                 ),
                               ),
                         ),

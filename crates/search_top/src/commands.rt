@@ -40,11 +40,15 @@ pub fn command<S: Shelf>(alloc: Global, words: &[String], shelf: &mut S) -> Stat
         Ok(Some(Command::Eval { program, inputs })) => {
             eval_file(alloc, program, inputs.items(), shelf)
         }
-        Ok(Some(Command::Emulate {
-            program,
-            asm,
-            inputs,
-        })) => emulate_file(alloc, program, asm, inputs.items(), shelf),
+        Ok(
+            Some(
+                Command::Emulate {
+                    program,
+                    asm,
+                    inputs,
+                },
+            ),
+        ) => emulate_file(alloc, program, asm, inputs.items(), shelf),
         Ok(Some(Command::Show { asm })) => show_file(alloc, asm, shelf),
         Ok(Some(Command::Search { .. })) | Ok(None) => Status::Usage,
         Err(_) => Status::OutOfMemory,

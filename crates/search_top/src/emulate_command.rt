@@ -3,8 +3,8 @@ ghost use Rattle.search_top.specs.Commands.{EndsAs};
 
 use crate::emulation::text;
 use base::Text;
-use command_line::Command;
 use command_frame::{Status, load_listing, load_program, output_name, say_text};
+use command_line::Command;
 use io_ports::Shelf;
 use std::alloc::Global;
 

@@ -8,8 +8,8 @@ ghost use Rattle.search_top.specs.Eval.{EvalMeans, EvalRefuses};
 
 use crate::outputs::output_lines;
 use base::Text;
-use command_line::Command;
 use command_frame::{Status, load_program, output_name, say_text};
+use command_line::Command;
 use io_ports::Shelf;
 use std::alloc::Global;
 use word_program::{EvalFault, Program, eval};

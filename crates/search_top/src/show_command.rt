@@ -3,8 +3,8 @@ ghost use Rattle.search_top.specs.Commands.{EndsAs};
 
 use asm_text::write;
 use base::Text;
-use command_line::Command;
 use command_frame::{Status, load_listing, output_name, say_text};
+use command_line::Command;
 use io_ports::Shelf;
 use std::alloc::Global;
 
