@@ -1,0 +1,3 @@
+-- The lemmas of this crate, one subject a file.
+pub mod RowLemmas
+pub mod Lies

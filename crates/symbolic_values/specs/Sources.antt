@@ -1,0 +1,149 @@
+-- The nodes of a program's values, in the order in which they are made: the starts of the registers, the input words,
+-- and then for each operation its operands and its results. And the symbolic state at the start of a listing.
+use Rattle.std.specs.Prelude.{ℕ, zero, suc, ◌+◌, ◌-◌, ◌/◌, ◌^◌, List, [], ◌∷◌, ◌++◌, length, map, fold, replicate, Option, Some}
+use Rattle.std.specs.Prelude.{None, slice_index, slice_set, if◌then◌else◌}
+use Rattle.std.specs.List.{range_with_len}
+use Rattle.word_operations.specs.declared.kind.Kind.{Kind}
+use Rattle.word_operations.specs.declared.kind.Kind.TheVariants.{AddCarry, SubBorrow, MulX, CMov, Add, Sub, Mul, And}
+use Rattle.word_operations.specs.declared.kind.Kind.TheVariants.{Or, Xor, Not, Copy, Shl, Shr, Shrd}
+use Rattle.word_program.specs.declared.parameter.Bounds.{Bounds}
+use Rattle.word_program.specs.declared.parameter.Param.{Param}
+use Rattle.word_program.specs.declared.operation.Op.{Op}
+use Rattle.word_program.specs.declared.operation.Operand.{Operand}
+use Rattle.word_program.specs.declared.operation.Operand.TheVariants as operands
+use Rattle.word_program.specs.Program.{Source}
+use Rattle.word_program.specs.Values.{is_output, is_scalar, outputs_from, targets_of, word_bounds}
+use Rattle.x86_instr.specs.Registers.{number_of}
+use Rattle.x86_meaning.specs.Start.{param_reg}
+use Rattle.terms.specs.declared.lists.Term.{Term}
+use Rattle.terms.specs.declared.nodes.Node.{Node}
+use Rattle.terms.specs.declared.nodes.Form.{Form}
+use Rattle.terms.specs.declared.nodes.Form.TheVariants as forms
+use Rattle.term_store.specs.Interning.{AllMade, made, made_all}
+use Rattle.symbolic_values.specs.Symbols.{Array, Symbols}
+use Rattle.symbolic_values.specs.Cells.{term}
+use Rattle.symbolic_values.specs.Steps.{plus, minus, sum}
+
+-- ---- inputs
+
+-- the input word, with its bounds
+abbrev pub input_form : List Param → ℕ → ℕ → Form
+input_form params param word =
+    let bounds = word_bounds params param word in forms.In param word bounds.low bounds.high
+
+-- the forms of the words of one parameter
+abbrev pub param_forms : List Param → ℕ → Param → List Form
+param_forms params param p =
+    if is_output p.role then [] else map (input_form params param) (range_with_len 0 (length p.bounds))
+
+-- and of parameters of which the first has this number
+abbrev pub inputs_from : List Param → ℕ → List Param → List Form
+inputs_from params param [] = []
+inputs_from params param (p ∷ ps) = param_forms params param p ++ inputs_from params (param + 1) ps
+
+-- the starts of the sixteen registers, and the input words
+abbrev pub start_forms : List Param → List Form
+start_forms params = map forms.Start (range_with_len 0 16) ++ inputs_from params 0 params
+
+-- ---- operations
+
+-- the form of an operand that is no value
+abbrev pub operand_made : List Param → List ℕ → List Node → Operand → AllMade
+operand_made params values table (operands.Literal n) = made_all table (forms.Const n ∷ [])
+operand_made params values table (operands.Input param word) = made_all table (input_form params param word ∷ [])
+operand_made params values table (operands.Value number) = record {
+  table = table;
+  numbers = slice_index values number ∷ [];
+}
+
+-- the nodes of operands, in order
+abbrev pub operands_made : List Param → List ℕ → List Node → List Operand → AllMade
+operands_made params values table [] = record { table = table; numbers = [] }
+operands_made params values table (operand ∷ more) =
+    let first = operand_made params values table operand in
+    let rest = operands_made params values first.table more in
+    record { table = rest.table; numbers = first.numbers ++ rest.numbers }
+
+-- the nodes of an operation's results; its operands' nodes are a, b and c, of which a carry, a borrow and a condition
+-- come first
+abbrev pub results_made : Kind → List Node → ℕ → ℕ → ℕ → AllMade
+results_made AddCarry table c a b =
+    made_all table (sum (plus c ∷ plus a ∷ plus b ∷ []) ∷ forms.Carry (c ∷ a ∷ b ∷ []) ∷ [])
+results_made SubBorrow table c a b =
+    made_all table (sum (plus a ∷ minus b ∷ minus c ∷ []) ∷ forms.Borrow a (b ∷ c ∷ []) ∷ [])
+results_made MulX table a b z = made_all table (forms.MulLo a b ∷ forms.MulHi a b ∷ [])
+results_made CMov table c z nz = made_all table (forms.Select c z nz ∷ [])
+results_made Add table a b z = made_all table (sum (plus a ∷ plus b ∷ []) ∷ [])
+results_made Sub table a b z = made_all table (sum (plus a ∷ minus b ∷ []) ∷ [])
+results_made Mul table a b z = made_all table (forms.MulLo a b ∷ [])
+results_made And table a b z = made_all table (forms.And a b ∷ [])
+results_made Or table a b z = made_all table (forms.Or a b ∷ [])
+results_made Xor table a b z = made_all table (forms.Xor a b ∷ [])
+results_made Not table a y z = made_all table (forms.Lin (2 ^ 64 - 1) (minus a ∷ []) ∷ [])
+results_made Copy table a y z = record { table = table; numbers = a ∷ [] }
+results_made (Shl k) table a y z = made_all table (sum (term (2 ^ k) a ∷ []) ∷ [])
+results_made (Shr k) table a y z = made_all table (forms.Shr a k ∷ [])
+results_made (Shrd k) table lo hi z =
+    let parts = made_all table (forms.Shr lo k ∷ sum (term (2 ^ (64 - k)) hi ∷ []) ∷ []) in
+    made_all parts.table (sum (plus (slice_index parts.numbers 0) ∷ plus (slice_index parts.numbers 1) ∷ []) ∷ [])
+
+unfoldable pub op_made : List Param → List ℕ → List Node → Op → AllMade
+op_made params values table op =
+    let args = operands_made params values table op.args in
+    results_made op.kind args.table (slice_index args.numbers 0) (slice_index args.numbers 1)
+    (slice_index args.numbers 2)
+
+-- ---- programs
+
+-- the values' nodes so far, and those of one operation more
+abbrev pub and_op : List Param → AllMade → Op → AllMade
+and_op params values op =
+    let results = op_made params values.numbers values.table op in
+    record { table = results.table; numbers = values.numbers ++ results.numbers }
+
+-- the table of a program's nodes, and the nodes of its values by their value numbers
+unfoldable pub source_made : Source → AllMade
+source_made program = fold (and_op program.params)
+    (record { table = (made_all [] (start_forms program.params)).table; numbers = [] }) program.ops
+
+-- the nodes of the output words, in the order of the parameters
+unfoldable pub source_outputs : Source → List ℕ
+source_outputs program = outputs_from (targets_of program.ops) (source_made program).numbers 0 program.params
+
+-- ---- the start of a listing
+
+-- the node of an input word, in a table that has it
+abbrev pub input_node : List Node → List Param → ℕ → ℕ → ℕ
+input_node table params param word = (made table (input_form params param word)).number
+
+-- a scalar's register holds its word, and every other one what it holds at the start
+abbrev pub with_scalars : List Node → List Param → ℕ → List Param → List ℕ → List ℕ
+with_scalars table params param [] regs = regs
+with_scalars table params param (p ∷ ps) regs = with_scalars table params (param + 1) ps
+    (if is_scalar p.role then slice_set regs (number_of (param_reg param)) (input_node table params param 0) else regs)
+
+-- the words of an input array are known, and those of an output are not; a scalar has none
+abbrev pub array_at_start : List Node → List Param → ℕ → Param → Array
+array_at_start table params param p = record {
+  role = p.role;
+  words = if is_scalar p.role then [] else if is_output p.role then replicate (length p.bounds) None else
+      map (λ word. Some (input_node table params param word)) (range_with_len 0 (length p.bounds));
+}
+
+abbrev pub arrays_at_start : List Node → List Param → ℕ → List Param → List Array
+arrays_at_start table params param [] = []
+arrays_at_start table params param (p ∷ ps) =
+    array_at_start table params param p ∷ arrays_at_start table params (param + 1) ps
+
+-- the state at the start of a listing with such a frame; flags, output words and the frame's words are unknown
+unfoldable pub symbols_at_start : List Node → Source → ℕ → Symbols
+symbols_at_start table program frame = record {
+  regs = with_scalars table program.params 0 program.params (range_with_len 0 16);
+  cf = None;
+  of = None;
+  zf = None;
+  arrays = arrays_at_start table program.params 0 program.params;
+  frame = replicate (frame / 8) None;
+  overlap = program.overlap;
+  touch = None;
+}

@@ -1,0 +1,6 @@
+//! Symbolic steps: a listing run on nodes, which stand for words, in place of the words themselves.
+#![tactic(auto)]
+
+mod touch;
+
+pub use touch::Touch;

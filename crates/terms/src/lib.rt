@@ -1,0 +1,14 @@
+//! Nodes, which stand for words, and the rules that make nodes in a normal form.
+//!
+//! Two computations are the same where they make the same node. It promises to whoever compares a listing with a
+//! program so that [`normal`] follows the rules of `specs/Rules.antt`, and that what it makes has the value of its
+//! form and an interval that holds this value, in every table whose nodes are sound.
+#![tactic(auto)]
+
+mod lists;
+mod nodes;
+mod rules;
+
+pub use lists::{Numbers, Term, Terms};
+pub use nodes::{Built, Form, Node, NodeKind, Nodes, is_same};
+pub use rules::normal;
