@@ -5,3 +5,4 @@ pub mod Steps
 pub mod Sources
 pub mod Fitting
 pub mod Covering
+pub mod Written
