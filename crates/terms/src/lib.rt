@@ -5,6 +5,7 @@
 //! form and an interval that holds this value, in every table whose nodes are sound.
 #![tactic(auto)]
 
+mod constants;
 mod lists;
 mod nodes;
 mod rules;

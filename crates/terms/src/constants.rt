@@ -1,0 +1,77 @@
+ghost use Rattle.std.specs.Prelude.{◌≡◌};
+ghost use Rattle.terms.specs.Rules.{const_node, finished, is_value};
+ghost use Rattle.terms.specs.Tables.{const_of};
+
+use crate::nodes::{Node, NodeKind};
+use intervals::Interval;
+
+/// The constant that a node is, where it is one.
+pub fn constant(node: &Node) -> Option<u64>
+    ensures { result ≡ const_of node.now.kind }
+{
+    match &node.kind {
+        NodeKind::Const(v) => Some(*v),
+        NodeKind::Start(_) => None,
+        NodeKind::In { .. } => None,
+        NodeKind::Sum { .. } => None,
+        NodeKind::Wide { .. } => None,
+        NodeKind::Carry(_) => None,
+        NodeKind::Borrow { .. } => None,
+        NodeKind::Zero(_) => None,
+        NodeKind::MulLo(..) => None,
+        NodeKind::MulHi(..) => None,
+        NodeKind::And(..) => None,
+        NodeKind::Or(..) => None,
+        NodeKind::Xor(..) => None,
+        NodeKind::Shr { .. } => None,
+        NodeKind::Select { .. } => None,
+        NodeKind::SetB { .. } => None,
+    }
+}
+
+/// The node of a constant.
+pub fn constant_node(v: u64) -> Node
+    ensures { result ≡ const_node v }
+{
+    Node {
+        kind: NodeKind::Const(v),
+        low: v,
+        high: v,
+    }
+}
+
+/// The interval in which a node's word lies.
+pub fn interval_of(node: &Node) -> Interval
+    ensures { result ≡ record { low = node.now.low; high = node.now.high } }
+{
+    Interval {
+        low: node.low,
+        high: node.high,
+    }
+}
+
+/// A node with an interval; the constant where it is one word.
+#[tactic(auto, unfolding(crate::specs::Rules::finished))]
+pub fn finish(kind: NodeKind, interval: Interval) -> Node
+    ensures { result ≡ finished kind interval }
+{
+    if interval.low == interval.high {
+        constant_node(interval.low)
+    } else {
+        Node {
+            kind,
+            low: interval.low,
+            high: interval.high,
+        }
+    }
+}
+
+/// Whether the constant that was found is this one.
+pub fn is_constant(found: Option<u64>, v: u64) -> bool
+    ensures { result ≡ is_value found v }
+{
+    match found {
+        Some(w) => w == v,
+        None => false,
+    }
+}
