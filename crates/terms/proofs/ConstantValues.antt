@@ -5,9 +5,10 @@ use Rattle.terms.specs.declared.nodes.Node.{Node}
 use Rattle.terms.specs.declared.nodes.NodeKind.{NodeKind}
 use Rattle.terms.specs.declared.nodes.NodeKind.TheVariants as kinds
 use Rattle.terms.specs.declared.nodes.Built.TheVariants.{Make}
-use Rattle.terms.specs.Tables.{node_at, const_of}
+use Rattle.terms.specs.Tables.{node_at, const_of, RefersBelow}
+use Rattle.terms.specs.Forms.{BuiltFits}
 use Rattle.terms.specs.Meaning.{Start, kind_value, IsValuation, IsSound, Stands}
-use Rattle.terms.specs.Rules.{constant_at, is_value, is_const, const_node, finished}
+use Rattle.terms.specs.Rules.{constant_at, is_value, is_const, const_node, finished, own}
 use Rattle.terms.proofs.Cases.{by_if, from_eqb}
 
 -- ---- nodes that are constants
@@ -40,3 +41,10 @@ finished_stands start val kind i v e a b =
     by_if (λ (n : Node). Stands start val v (Make n)) (eqb i.low i.high) (const_node i.low)
     (record { kind = kind; low = i.low; high = i.high })
     (λ q. let f = from_eqb i.low i.high q in (omega arith, a, omega arith)) (λ q. (e, a, b))
+
+pub own_fits : (table : List Node) (kind : NodeKind) (i : Interval) → RefersBelow (length table) kind
+    → BuiltFits table (own kind i)
+unfolding finished
+own_fits table kind i r =
+    by_if (λ (n : Node). BuiltFits table (Make n)) (eqb i.low i.high) (const_node i.low)
+    (record { kind = kind; low = i.low; high = i.high }) (λ _. tt) (λ _. r)

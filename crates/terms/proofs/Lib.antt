@@ -1,4 +1,9 @@
 -- The lemmas of this crate, one subject a file.
+pub mod BitValues
 pub mod Cases
 pub mod ConstantValues
+pub mod ProductValues
+pub mod RuleFits
 pub mod Same
+pub mod SelectTurns
+pub mod SelectValues

@@ -1,8 +1,8 @@
 ghost use Rattle.std.specs.Prelude.{◌≡◌};
-ghost use Rattle.terms.specs.Rules.{const_node, finished, is_value};
+ghost use Rattle.terms.specs.Rules.{const_node, finished, is_value, own};
 ghost use Rattle.terms.specs.Tables.{const_of};
 
-use crate::nodes::{Node, NodeKind};
+use crate::nodes::{Built, Node, NodeKind};
 use intervals::Interval;
 
 /// The constant that a node is, where it is one.
@@ -64,6 +64,13 @@ pub fn finish(kind: NodeKind, interval: Interval) -> Node
             high: interval.high,
         }
     }
+}
+
+/// Its own node, where no other rule is left.
+pub fn own(kind: NodeKind, interval: Interval) -> Built
+    ensures { result ≡ own kind interval }
+{
+    Built::Make(finish(kind, interval))
 }
 
 /// Whether the constant that was found is this one.

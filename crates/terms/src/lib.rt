@@ -5,10 +5,16 @@
 //! form and an interval that holds this value, in every table whose nodes are sound.
 #![tactic(auto)]
 
+mod bits;
+mod borrow;
+mod carry;
 mod constants;
 mod lists;
 mod nodes;
+mod products;
 mod rules;
+mod select;
+mod sums;
 
 pub use lists::{Numbers, Term, Terms};
 pub use nodes::{Built, Form, Node, NodeKind, Nodes, is_same};
