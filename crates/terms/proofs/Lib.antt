@@ -2,6 +2,8 @@
 pub mod BitValues
 pub mod Cases
 pub mod ConstantValues
+pub mod NormalForms
+pub mod Pending
 pub mod ProductValues
 pub mod RuleFits
 pub mod Same

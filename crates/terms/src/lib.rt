@@ -5,7 +5,7 @@
 //! form and an interval that holds this value, in every table whose nodes are sound.
 #![tactic(auto)]
 
-mod bits;
+mod bitwise;
 mod borrow;
 mod carry;
 mod constants;

@@ -3,7 +3,7 @@ ghost use Rattle.terms.specs.Forms.{BuiltFits, FormFits};
 ghost use Rattle.terms.specs.Meaning.{Admits, IsSound, IsValuation, Stands, Start, form_value};
 ghost use Rattle.terms.specs.Rules.{normal_of};
 
-use crate::bits::{and_form, or_form, xor_form, zero_form};
+use crate::bitwise::{and_form, or_form, xor_form, zero_form};
 use crate::borrow::borrow_form;
 use crate::carry::carry_form;
 use crate::constants::{constant_node, interval_of, own};
