@@ -105,11 +105,11 @@ module _ (start : Start) (val : ℕ → ℕ) (table : List Node) (t : IsTable ta
       let P : Built → Type 0 = Stands start val (bit_and (val a) (val b)) in
       by_if P (eqb a b) _ _ (λ e. sym (ap (λ (n : ℕ). bit_and (val a) (val n)) (sym (from_eqb a b e)) ∙ and_self (val a)))
       (λ _. by_if P (is_const table a 0 || is_const table b 0) _ _ (λ e. ⊎_elim
-          (λ (p : is_const table a 0 ≡ true). let z = is_const_value start val table i s a 0 h p in
-          let l = and_le_l (val a) (val b) in constant_stands 0 _ (omega arith))
-          (λ (p : is_const table b 0 ≡ true). let z = is_const_value start val table i s b 0 j p in
-          let l = and_le_r (val a) (val b) in constant_stands 0 _ (omega arith))
-          (one_true _ _ e))
+      (λ (p : is_const table a 0 ≡ true). let z = is_const_value start val table i s a 0 h p in
+      let l = and_le_l (val a) (val b) in constant_stands 0 _ (omega arith))
+      (λ (p : is_const table b 0 ≡ true). let z = is_const_value start val table i s b 0 j p in
+      let l = and_le_r (val a) (val b) in constant_stands 0 _ (omega arith))
+      (one_true _ _ e))
       (λ _. by_if P (covers (constant_at table a) (high_at table b)) _ _ (λ e. sym (covered a b h j e))
       (λ _. by_if P (covers (constant_at table b) (high_at table a)) _ _
       (λ e. sym (and_comm (val a) (val b) ∙ covered b a j h e))

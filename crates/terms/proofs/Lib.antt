@@ -2,6 +2,8 @@
 pub mod BitValues
 pub mod Cases
 pub mod ConstantValues
+pub mod FormWords
+pub mod Highs
 pub mod NormalForms
 pub mod Pending
 pub mod ProductValues

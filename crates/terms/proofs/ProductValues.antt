@@ -35,7 +35,6 @@ module _ (table : List Node) (t : IsTable table)
 
 module _ (start : Start) (val : ℕ → ℕ) (table : List Node) (t : IsTable table)
     (i : IsValuation start table val) (s : IsSound table val) where
-
   -- ---- products
 
   module _ (lin_stands : (k : ℕ) (terms : List Term) → AreTermsBelow (length table) terms → length terms ≤ 16
@@ -65,8 +64,8 @@ module _ (start : Start) (val : ℕ → ℕ) (table : List Node) (t : IsTable ta
       by_constant None (Some w) e f =
           let c : val b ≡ w = const_value start val table i s b w j f in
           scaled_stands w a _ h (ap (λ (n : ℕ). n * val a) (sym c) ∙ times_comm (val b) (val a)) where
-        times_comm : (m n : ℕ) → m * n ≡ n * m
-        times_comm m n = omega arith
+            times_comm : (m n : ℕ) → m * n ≡ n * m
+            times_comm m n = omega arith
       by_constant None None e f = product_stands a b h j
 
   pub mul_hi_stands : (a b : ℕ) → a < length table → b < length table

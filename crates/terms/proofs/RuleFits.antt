@@ -70,12 +70,12 @@ module _ (table : List Node) (t : IsTable table) where
       (λ _. by_if (BuiltFits table) (is_const table c 0) _ _ (λ _. j)
       (λ _. by_if (BuiltFits table) (eqb x y) _ _ (λ _. j)
       (λ _. by_tested (λ b l. below_fits bound b y x (omega arith) k j) (tested (node_at table c).kind) refl))) where
-    by_tested : ((b : ℕ) → b < c → BuiltFits table (select_below bound table b y x)) → (o : Option ℕ)
-        → tested (node_at table c).kind ≡ o → BuiltFits table (pick o (λ b. select_below bound table b y x)
-        (own (kinds.Select c x y) (choice (interval_at table x) (interval_at table y))))
-    by_tested turned None e =
-        own_fits table (kinds.Select c x y) (choice (interval_at table x) (interval_at table y)) (h, j, k)
-    by_tested turned (Some b) e = turned b (tested_below table t c b h e)
+        by_tested : ((b : ℕ) → b < c → BuiltFits table (select_below bound table b y x)) → (o : Option ℕ)
+            → tested (node_at table c).kind ≡ o → BuiltFits table (pick o (λ b. select_below bound table b y x)
+            (own (kinds.Select c x y) (choice (interval_at table x) (interval_at table y))))
+        by_tested turned None e =
+            own_fits table (kinds.Select c x y) (choice (interval_at table x) (interval_at table y)) (h, j, k)
+        by_tested turned (Some b) e = turned b (tested_below table t c b h e)
 
   pub select_fits : (c x y : ℕ) → c < length table → x < length table → y < length table
       → BuiltFits table (select_of table c x y)

@@ -57,17 +57,17 @@ module _ (start : Start) (val : ℕ → ℕ) (table : List Node) (t : IsTable ta
       (λ _. by_if P (eqb x y) _ _ (λ e. chosen_same (val c) (val x) (val y) (ap val (from_eqb x y e)))
       (λ _. by_tested (λ b l. below_stands bound b y x (omega arith) (omega arith) k j)
       (tested (node_at table c).kind) refl))) where
-    by_tested : ((b : ℕ) → b < c → Stands start val (chosen (val b) (val y) (val x)) (select_below bound table b y x))
-        → (o : Option ℕ) → tested (node_at table c).kind ≡ o
-        → Stands start val (chosen (val c) (val x) (val y)) (pick o (λ b. select_below bound table b y x)
-        (own (kinds.Select c x y) (choice (interval_at table x) (interval_at table y))))
-    by_tested turned None e = own_stands c x y j k
-    by_tested turned (Some b) e =
-        let l = tested_below table t c b h e in
-        let v = i.meets c h ∙ ap (kind_value start val) (tested_kind (node_at table c).kind b e) in
-        subst (λ (n : ℕ). Stands start val n (select_below bound table b y x))
-        (chosen_turned (val c) (val b) (val x) (val y) v)
-        (turned b l)
+        by_tested : ((b : ℕ) → b < c → Stands start val (chosen (val b) (val y) (val x)) (select_below bound table b y x))
+            → (o : Option ℕ) → tested (node_at table c).kind ≡ o
+            → Stands start val (chosen (val c) (val x) (val y)) (pick o (λ b. select_below bound table b y x)
+            (own (kinds.Select c x y) (choice (interval_at table x) (interval_at table y))))
+        by_tested turned None e = own_stands c x y j k
+        by_tested turned (Some b) e =
+            let l = tested_below table t c b h e in
+            let v = i.meets c h ∙ ap (kind_value start val) (tested_kind (node_at table c).kind b e) in
+            subst (λ (n : ℕ). Stands start val n (select_below bound table b y x))
+            (chosen_turned (val c) (val b) (val x) (val y) v)
+            (turned b l)
 
   pub select_stands : (c x y : ℕ) → c < length table → x < length table → y < length table
       → Stands start val (cond (eqb (val c) 0) (val x) (val y)) (select_of table c x y)

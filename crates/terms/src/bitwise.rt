@@ -54,7 +54,10 @@ pub fn and_form<N: Nodes>(nodes: &N, a: u32, b: u32) -> Built
     }
     match (constant(p), constant(q)) {
         (Some(v), Some(w)) => Built::Make(constant_node(v & w)),
-        _ => own(NodeKind::And(a, b), bits_and(interval_of(p), interval_of(q))),
+        _ => own(
+            NodeKind::And(a, b),
+            bits_and(interval_of(p), interval_of(q)),
+        ),
     }
 }
 
@@ -102,6 +105,9 @@ pub fn xor_form<N: Nodes>(nodes: &N, a: u32, b: u32) -> Built
     }
     match (constant(p), constant(q)) {
         (Some(v), Some(w)) => Built::Make(constant_node(v ^ w)),
-        _ => own(NodeKind::Xor(a, b), bits_xor(interval_of(p), interval_of(q))),
+        _ => own(
+            NodeKind::Xor(a, b),
+            bits_xor(interval_of(p), interval_of(q)),
+        ),
     }
 }

@@ -5,7 +5,12 @@ ghost use Rattle.terms.specs.Tables.{AreBelow};
 use crate::nodes::{Built, Nodes};
 use std::alloc::{AllocError, Global};
 
-pub fn borrow_form<N: Nodes>(alloc: Global, nodes: &N, a: u32, list: &[u32]) -> Result<Built, AllocError>
+pub fn borrow_form<N: Nodes>(
+    alloc: Global,
+    nodes: &N,
+    a: u32,
+    list: &[u32],
+) -> Result<Built, AllocError>
     requires a_in { a < length (N.nodes nodes.now) }
     requires inside { AreBelow (length (N.nodes nodes.now)) list.now }
     requires few { length list.now ≤ 2 }

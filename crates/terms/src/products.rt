@@ -20,7 +20,10 @@ pub fn mul_lo_form<N: Nodes>(alloc: Global, nodes: &N, a: u32, b: u32) -> Result
     match (constant(p), constant(q)) {
         (Some(v), _) => lin_form(alloc, nodes, 0, &[Term { times: v, node: b }]),
         (None, Some(w)) => lin_form(alloc, nodes, 0, &[Term { times: w, node: a }]),
-        (None, None) => Ok(own(NodeKind::MulLo(a, b), product_low(interval_of(p), interval_of(q)))),
+        (None, None) => Ok(own(
+            NodeKind::MulLo(a, b),
+            product_low(interval_of(p), interval_of(q)),
+        )),
     }
 }
 
@@ -31,5 +34,8 @@ pub fn mul_hi_form<N: Nodes>(nodes: &N, a: u32, b: u32) -> Built
     requires b_in { b < length (N.nodes nodes.now) }
     ensures { result ≡ mul_hi_of (N.nodes nodes.now) a b }
 {
-    own(NodeKind::MulHi(a, b), product_high(interval_of(nodes.node(a)), interval_of(nodes.node(b))))
+    own(
+        NodeKind::MulHi(a, b),
+        product_high(interval_of(nodes.node(a)), interval_of(nodes.node(b))),
+    )
 }

@@ -23,7 +23,12 @@ fn applied<N: Nodes>(alloc: Global, nodes: &N, form: Form) -> Result<Built, Allo
     match form {
         Form::Const(v) => Ok(Built::Make(constant_node(v))),
         Form::Start(reg) => Ok(own(NodeKind::Start(reg), full())),
-        Form::In { param, word, low, high } => Ok(own(NodeKind::In { param, word }, between(low, high))),
+        Form::In {
+            param,
+            word,
+            low,
+            high,
+        } => Ok(own(NodeKind::In { param, word }, between(low, high))),
         Form::Lin { k, terms } => lin_form(alloc, nodes, k, terms.items()),
         Form::Carry(list) => carry_form(alloc, nodes, list.items()),
         Form::Borrow { a, list } => borrow_form(alloc, nodes, a, list.items()),
@@ -33,7 +38,10 @@ fn applied<N: Nodes>(alloc: Global, nodes: &N, form: Form) -> Result<Built, Allo
         Form::And(a, b) => Ok(and_form(nodes, a.min(b), a.max(b))),
         Form::Or(a, b) => Ok(or_form(nodes, a.min(b), a.max(b))),
         Form::Xor(a, b) => Ok(xor_form(nodes, a.min(b), a.max(b))),
-        Form::Shr { x, k } => Ok(own(NodeKind::Shr { x, k }, shifted_right(interval_of(nodes.node(x)), k))),
+        Form::Shr { x, k } => Ok(own(
+            NodeKind::Shr { x, k },
+            shifted_right(interval_of(nodes.node(x)), k),
+        )),
         Form::Select { c, x, y } => Ok(select_form(nodes, c, x, y)),
         Form::SetB { v, b } => Ok(own(NodeKind::SetB { v, b }, full())),
     }

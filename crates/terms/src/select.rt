@@ -30,7 +30,7 @@ fn tested(node: &Node) -> Option<u32>
 }
 
 /// `x` where `c` is 0, else `y`.
-#[tactic(auto, unfolding(crate::specs::Rules::select_of, crate::specs::Rules::select_below))]
+#[tactic(auto, using(crate::proofs::SelectTurns::select_turned, crate::proofs::SelectTurns::tested_below), unfolding(crate::specs::Rules::select_of, crate::specs::Rules::select_below))]
 pub fn select_form<N: Nodes>(nodes: &N, c: u32, x: u32, y: u32) -> Built
     requires c_in { c < length (N.nodes nodes.now) }
     requires x_in { x < length (N.nodes nodes.now) }
@@ -53,8 +53,18 @@ pub fn select_form<N: Nodes>(nodes: &N, c: u32, x: u32, y: u32) -> Built
             return Built::Is(at_zero);
         }
         let Some(turned) = tested(node) else {
-            let both = choice(interval_of(nodes.node(at_zero)), interval_of(nodes.node(otherwise)));
-            return own(NodeKind::Select { c: condition, x: at_zero, y: otherwise }, both);
+            let both = choice(
+                interval_of(nodes.node(at_zero)),
+                interval_of(nodes.node(otherwise)),
+            );
+            return own(
+                NodeKind::Select {
+                    c: condition,
+                    x: at_zero,
+                    y: otherwise,
+                },
+                both,
+            );
         };
         condition = turned;
         (at_zero, otherwise) = (otherwise, at_zero);

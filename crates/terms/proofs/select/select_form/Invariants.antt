@@ -9,7 +9,7 @@ invariant-loop-node g l = record {
       ≡ select_of (g.N.Nodes.nodes l.nodes) l.condition l.at_zero l.otherwise;
   condition_in : l.condition < length (g.N.Nodes.nodes l.nodes);
   at_zero_in : l.at_zero < length (g.N.Nodes.nodes l.nodes);
-  otherwise_in : l.otherwise < length (g.N.Nodes.nodes l.nodes)
+  otherwise_in : l.otherwise < length (g.N.Nodes.nodes l.nodes);
 }
 
 abbrev pub decreases-loop-node : goal.decreases-loop-node
