@@ -1,6 +1,6 @@
 -- Results by bits: the rules keep the word of each form, and what they make has it in its interval.
-use Rattle.std.proofs.Common.{◌≡◌, ℕ, zero, suc, ◌+◌, ◌-◌, ◌*◌, ◌/◌, ◌^◌, ◌<◌, ◌≤◌, List, length, Bool, true, false, cond}
-use Rattle.std.proofs.Common.{◌&&◌, ◌||◌, eqb, leb, min, max, Option, Some, None, refl, sym, ap, ◌∙◌, subst, ⊎_elim, arith}
+use Rattle.std.proofs.Common.{◌≡◌, ℕ, zero, suc, ◌-◌, ◌*◌, ◌/◌, ◌^◌, ◌<◌, ◌≤◌, List, length, true, false, cond}
+use Rattle.std.proofs.Common.{◌||◌, eqb, leb, max, Option, Some, None, refl, sym, ap, ◌∙◌, ⊎_elim, arith}
 use Rattle.std.specs.Prelude.{bit_and, bit_or, bit_xor}
 use Rattle.std.specs.Int.{leading_zeros, w64}
 use Rattle.std.specs.Int.Count.{count_leading_zeros}
@@ -8,19 +8,18 @@ use Rattle.std.specs.Int.Bits.{and_self, or_self, xor_self, or_zero_l, or_zero_r
 use Rattle.std.proofs.lemmas.Nat.{and_comm, and_le_l, and_le_r, le_or_l, le_or_r, or_lt, xor_lt, and_mask}
 use Rattle.std.proofs.lemmas.Nat.{leading_length, pow_pos}
 use Rattle.std.proofs.lemmas.Bool.{cases_lt}
-use Rattle.std.proofs.lemmas.Bool.Decides.{nat_tests}
 use Rattle.std.proofs.Math.Nat.{mod-eq_of_lt}
-use Rattle.intervals.specs.declared.interval.Interval.{Interval}
 use Rattle.intervals.specs.Intervals.{ones, bits_and, bits_or, bits_xor}
 use Rattle.terms.specs.declared.nodes.Node.{Node}
 use Rattle.terms.specs.declared.nodes.NodeKind.TheVariants as kinds
 use Rattle.terms.specs.declared.nodes.Built.{Built}
-use Rattle.terms.specs.declared.nodes.Built.TheVariants.{Is, Make}
-use Rattle.terms.specs.Tables.{node_at, IsTable}
+use Rattle.terms.specs.declared.nodes.Built.TheVariants.{Make}
+use Rattle.terms.specs.Tables.{IsTable}
 use Rattle.terms.specs.Meaning.{Start, IsValuation, IsSound, Stands}
-use Rattle.terms.specs.Rules.{low_at, high_at, interval_at, constant_at, is_const, const_node, own, a_bit, covers, both_const}
+use Rattle.terms.specs.Rules.{low_at, high_at, interval_at, constant_at, is_const, const_node, a_bit, covers}
+use Rattle.terms.specs.Rules.{both_const}
 use Rattle.terms.specs.Rules.{and_of, or_of, xor_of, zero_of}
-use Rattle.terms.proofs.Cases.{by_if, first_true, second_true, one_true, from_eqb, from_leb, from_not_leb}
+use Rattle.terms.proofs.Cases.{by_if, first_true, second_true, one_true, from_eqb, from_leb}
 use Rattle.terms.proofs.ConstantValues.{const_value, is_const_value, finished_stands}
 
 -- ---- ones
@@ -98,12 +97,15 @@ module _ (start : Start) (val : ℕ → ℕ) (table : List Node) (t : IsTable ta
     both (Some v) None p r = n
     both None q p r = n
 
+  same : (f : ℕ → ℕ → ℕ) → ((n : ℕ) → f n n ≡ n) → (a b : ℕ) → a ≡ b → val a ≡ f (val a) (val b)
+  same f self a b e = sym (ap (λ (n : ℕ). f (val a) (val n)) (sym e) ∙ self (val a))
+
   pub and_stands : (a b : ℕ) → a < length table → b < length table
       → Stands start val (bit_and (val a) (val b)) (and_of table a b)
   unfolding and_of
   and_stands a b h j =
       let P : Built → Type 0 = Stands start val (bit_and (val a) (val b)) in
-      by_if P (eqb a b) _ _ (λ e. sym (ap (λ (n : ℕ). bit_and (val a) (val n)) (sym (from_eqb a b e)) ∙ and_self (val a)))
+      by_if P (eqb a b) _ _ (λ e. same bit_and and_self a b (from_eqb a b e))
       (λ _. by_if P (is_const table a 0 || is_const table b 0) _ _ (λ e. ⊎_elim
       (λ (p : is_const table a 0 ≡ true). let z = is_const_value start val table i s a 0 h p in
       let l = and_le_l (val a) (val b) in constant_stands 0 _ (omega arith))
@@ -113,18 +115,21 @@ module _ (start : Start) (val : ℕ → ℕ) (table : List Node) (t : IsTable ta
       (λ _. by_if P (covers (constant_at table a) (high_at table b)) _ _ (λ e. sym (covered a b h j e))
       (λ _. by_if P (covers (constant_at table b) (high_at table a)) _ _
       (λ e. sym (and_comm (val a) (val b) ∙ covered b a j h e))
-      (λ _. both_stand bit_and a b _ h j (finished_stands start val (kinds.And a b) (bits_and (interval_at table a) (interval_at table b)) _ refl (omega arith)
-      (omega (arith, and_le_l (val a) (val b), and_le_r (val a) (val b), s.below a h, s.below b j)))))))
+      (λ _. both_stand bit_and a b _ h j
+      (finished_stands start val (kinds.And a b) (bits_and (interval_at table a) (interval_at table b)) _ refl
+      (omega arith) (omega (arith, and_le_l (val a) (val b), and_le_r (val a) (val b), s.below a h, s.below b j)))))))
 
   -- ---- Or, Xor
 
   left_digits : (a b : ℕ) → a < length table
       → val a < 2 ^ (64 - leading_zeros w64 (max (high_at table a) (high_at table b)))
-  left_digits a b h = digits (val a) (max (high_at table a) (high_at table b)) (s.word a h) (omega (arith, s.below a h))
+  left_digits a b h =
+      digits (val a) (max (high_at table a) (high_at table b)) (s.word a h) (omega (arith, s.below a h))
 
   right_digits : (a b : ℕ) → b < length table
       → val b < 2 ^ (64 - leading_zeros w64 (max (high_at table a) (high_at table b)))
-  right_digits a b h = digits (val b) (max (high_at table a) (high_at table b)) (s.word b h) (omega (arith, s.below b h))
+  right_digits a b h =
+      digits (val b) (max (high_at table a) (high_at table b)) (s.word b h) (omega (arith, s.below b h))
 
   below_ones : (x m : ℕ) → x < 2 ^ m → x ≤ 2 ^ m - 1
   below_ones x m h = omega (arith, h)
@@ -135,10 +140,13 @@ module _ (start : Start) (val : ℕ → ℕ) (table : List Node) (t : IsTable ta
   or_stands a b h j =
       let P : Built → Type 0 = Stands start val (bit_or (val a) (val b)) in
       let m = 64 - leading_zeros w64 (max (high_at table a) (high_at table b)) in
-      by_if P (eqb a b) _ _ (λ e. sym (ap (λ (n : ℕ). bit_or (val a) (val n)) (sym (from_eqb a b e)) ∙ or_self (val a)))
-      (λ _. by_if P (is_const table a 0) _ _ (λ e. sym (ap (λ (n : ℕ). bit_or n (val b)) (is_const_value start val table i s a 0 h e) ∙ or_zero_l (val b)))
-      (λ _. by_if P (is_const table b 0) _ _ (λ e. sym (ap (bit_or (val a)) (is_const_value start val table i s b 0 j e) ∙ or_zero_r (val a)))
-      (λ _. both_stand bit_or a b _ h j (finished_stands start val (kinds.Or a b) (bits_or (interval_at table a) (interval_at table b)) _ refl
+      by_if P (eqb a b) _ _ (λ e. same bit_or or_self a b (from_eqb a b e))
+      (λ _. by_if P (is_const table a 0) _ _
+      (λ e. sym (ap (λ (n : ℕ). bit_or n (val b)) (is_const_value start val table i s a 0 h e) ∙ or_zero_l (val b)))
+      (λ _. by_if P (is_const table b 0) _ _
+      (λ e. sym (ap (bit_or (val a)) (is_const_value start val table i s b 0 j e) ∙ or_zero_r (val a)))
+      (λ _. both_stand bit_or a b _ h j
+      (finished_stands start val (kinds.Or a b) (bits_or (interval_at table a) (interval_at table b)) _ refl
       (omega (arith, le_or_l (val a) (val b), le_or_r (val a) (val b), s.above a h, s.above b j))
       (below_ones _ m (or_lt m (val a) (val b) (left_digits a b h) (right_digits a b j)))))))
 
@@ -148,8 +156,13 @@ module _ (start : Start) (val : ℕ → ℕ) (table : List Node) (t : IsTable ta
   xor_stands a b h j =
       let P : Built → Type 0 = Stands start val (bit_xor (val a) (val b)) in
       let m = 64 - leading_zeros w64 (max (high_at table a) (high_at table b)) in
-      by_if P (eqb a b) _ _ (λ e. constant_stands 0 _ (sym (ap (λ (n : ℕ). bit_xor (val a) (val n)) (sym (from_eqb a b e)) ∙ xor_self (val a))))
-      (λ _. by_if P (is_const table a 0) _ _ (λ e. sym (ap (λ (n : ℕ). bit_xor n (val b)) (is_const_value start val table i s a 0 h e) ∙ xor_zero_l (val b)))
-      (λ _. by_if P (is_const table b 0) _ _ (λ e. sym (ap (bit_xor (val a)) (is_const_value start val table i s b 0 j e) ∙ xor_zero_r (val a)))
-      (λ _. both_stand bit_xor a b _ h j (finished_stands start val (kinds.Xor a b) (bits_xor (interval_at table a) (interval_at table b)) _ refl (omega arith)
+      by_if P (eqb a b) _ _ (λ e. constant_stands 0 _
+      (sym (ap (λ (n : ℕ). bit_xor (val a) (val n)) (sym (from_eqb a b e)) ∙ xor_self (val a))))
+      (λ _. by_if P (is_const table a 0) _ _
+      (λ e. sym (ap (λ (n : ℕ). bit_xor n (val b)) (is_const_value start val table i s a 0 h e) ∙ xor_zero_l (val b)))
+      (λ _. by_if P (is_const table b 0) _ _
+      (λ e. sym (ap (bit_xor (val a)) (is_const_value start val table i s b 0 j e) ∙ xor_zero_r (val a)))
+      (λ _. both_stand bit_xor a b _ h j
+      (finished_stands start val (kinds.Xor a b) (bits_xor (interval_at table a) (interval_at table b)) _ refl
+      (omega arith)
       (below_ones _ m (xor_lt m (val a) (val b) (left_digits a b h) (right_digits a b j)))))))

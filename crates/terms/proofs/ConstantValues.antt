@@ -1,5 +1,5 @@
 -- Nodes that are constants, and nodes that become constants.
-use Rattle.std.proofs.Common.{◌≡◌, ℕ, ◌<◌, ◌≤◌, List, length, true, false, Option, Some, None, refl, ap, ◌∙◌, eqb, arith}
+use Rattle.std.proofs.Common.{◌≡◌, ℕ, ◌<◌, ◌≤◌, List, length, true, false, Option, Some, None, ap, ◌∙◌, eqb, arith}
 use Rattle.intervals.specs.declared.interval.Interval.{Interval}
 use Rattle.terms.specs.declared.nodes.Node.{Node}
 use Rattle.terms.specs.declared.nodes.NodeKind.{NodeKind}
@@ -25,7 +25,8 @@ is_some : (found : Option ℕ) (v : ℕ) → is_value found v ≡ true → found
 is_some None v e = absurd (let f : false ≡ true = e in cc)
 is_some (Some w) v e = ap Some (from_eqb w v e)
 
-module _ (start : Start) (val : ℕ → ℕ) (table : List Node) (i : IsValuation start table val) (s : IsSound table val) where
+module _ (start : Start) (val : ℕ → ℕ) (table : List Node)
+    (i : IsValuation start table val) (s : IsSound table val) where
   pub const_value : (n v : ℕ) → n < length table → constant_at table n ≡ Some v → val n ≡ v
   const_value n v h e = i.meets n h ∙ ap (kind_value start val) (const_kind (node_at table n).kind v e)
 

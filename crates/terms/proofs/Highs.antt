@@ -1,20 +1,20 @@
 -- How high the intervals are of what the rules make, by the intervals of the nodes alone.
-use Rattle.std.proofs.Common.{◌≡◌, ℕ, zero, suc, ◌+◌, ◌-◌, ◌/◌, ◌^◌, ◌<◌, ◌≤◌, List, length, Bool, true, false, ◌&&◌, ◌||◌}
-use Rattle.std.proofs.Common.{eqb, leb, min, max, Option, Some, None, refl, sym, ap, ◌∙◌, subst, arith}
+use Rattle.std.proofs.Common.{◌≡◌, ℕ, zero, suc, ◌+◌, ◌/◌, ◌^◌, ◌≤◌, List, true, false, ◌||◌}
+use Rattle.std.proofs.Common.{eqb, leb, min, max, Option, Some, None, refl, ap, subst, arith}
 use Rattle.std.specs.Prelude.{bit_and, bit_or, bit_xor}
 use Rattle.std.proofs.lemmas.Nat.{and_le_l, and_le_r, or_lt, xor_lt}
 use Rattle.base.specs.Options.{pick}
 use Rattle.intervals.specs.declared.interval.Interval.{Interval}
 use Rattle.intervals.specs.Intervals.{ones, bits_and, bits_or, bits_xor, shifted_right, choice}
-use Rattle.intervals.specs.Soundness.{AreLeastOnes}
 use Rattle.intervals.proofs.Lies.{least_ones}
 use Rattle.terms.specs.declared.nodes.Node.{Node}
 use Rattle.terms.specs.declared.nodes.NodeKind.{NodeKind}
 use Rattle.terms.specs.declared.nodes.NodeKind.TheVariants as kinds
 use Rattle.terms.specs.declared.nodes.Built.{Built}
 use Rattle.terms.specs.declared.nodes.Built.TheVariants.{Is, Make}
-use Rattle.terms.specs.Tables.{node_at, const_of, IsTable}
-use Rattle.terms.specs.Rules.{low_at, high_at, interval_at, constant_at, is_const, const_node, finished, own, a_bit, covers}
+use Rattle.terms.specs.Tables.{node_at, const_of}
+use Rattle.terms.specs.Rules.{low_at, high_at, interval_at, constant_at, is_const, const_node, finished, own, a_bit}
+use Rattle.terms.specs.Rules.{covers}
 use Rattle.terms.specs.Rules.{both_const, tested, zero_of, and_of, or_of, xor_of, select_below, select_of}
 use Rattle.terms.proofs.Cases.{by_if, second_true, from_eqb, from_leb}
 
@@ -127,15 +127,15 @@ below_high table (suc bound) c x y =
     (λ _. by_if P (is_const table c 0) _ _ (λ _. omega arith)
     (λ _. by_if P (eqb x y) _ _ (λ _. omega arith)
     (λ _. by_tested (λ b. below_high table bound b y x) (tested (node_at table c).kind)))) where
-  by_tested : ((b : ℕ) → IsHighBuilt table (max (high_at table y) (high_at table x)) (select_below bound table b y x))
-      → (o : Option ℕ)
-      → IsHighBuilt table (max (high_at table x) (high_at table y)) (pick o (λ b. select_below bound table b y x)
-      (own (kinds.Select c x y) (choice (interval_at table x) (interval_at table y))))
-  by_tested turned None =
-      own_high table _ (kinds.Select c x y) (choice (interval_at table x) (interval_at table y)) (omega arith)
-  by_tested turned (Some b) =
-      let e : max (high_at table y) (high_at table x) ≡ max (high_at table x) (high_at table y) = omega arith in
-      subst (λ (h : ℕ). IsHighBuilt table h (select_below bound table b y x)) e (turned b)
+      by_tested : ((b : ℕ) → IsHighBuilt table (max (high_at table y) (high_at table x)) (select_below bound table b y x))
+          → (o : Option ℕ)
+          → IsHighBuilt table (max (high_at table x) (high_at table y)) (pick o (λ b. select_below bound table b y x)
+          (own (kinds.Select c x y) (choice (interval_at table x) (interval_at table y))))
+      by_tested turned None =
+          own_high table _ (kinds.Select c x y) (choice (interval_at table x) (interval_at table y)) (omega arith)
+      by_tested turned (Some b) =
+          let e : max (high_at table y) (high_at table x) ≡ max (high_at table x) (high_at table y) = omega arith in
+          subst (λ (h : ℕ). IsHighBuilt table h (select_below bound table b y x)) e (turned b)
 
 pub select_high : (table : List Node) (c x y : ℕ)
     → IsHighBuilt table (max (high_at table x) (high_at table y)) (select_of table c x y)

@@ -1,6 +1,6 @@
 -- Of every form the rules make what has the form's word, with an interval that holds it, and what the table may take.
-use Rattle.std.proofs.Common.{◌≡◌, ℕ, ◌+◌, ◌*◌, ◌/◌, ◌%◌, ◌^◌, ◌<◌, ◌≤◌, List, [], ◌∷◌, length, min, max, cond, eqb, ltb, refl}
-use Rattle.std.proofs.Common.{ap, sym, ◌∙◌, subst, ⊎_elim, arith}
+use Rattle.std.proofs.Common.{◌≡◌, ℕ, ◌*◌, ◌/◌, ◌%◌, ◌^◌, ◌<◌, ◌≤◌, List, length, min, max, refl}
+use Rattle.std.proofs.Common.{ap, subst, ⊎_elim, arith}
 use Rattle.std.specs.Prelude.{bit_and, bit_or, bit_xor}
 use Rattle.std.proofs.lemmas.Bool.{cases_lt}
 use Rattle.std.proofs.lemmas.Nat.{and_comm, or_comm, xor_comm}
@@ -10,11 +10,10 @@ use Rattle.terms.specs.declared.nodes.NodeKind.TheVariants as kinds
 use Rattle.terms.specs.declared.nodes.Form.{Form}
 use Rattle.terms.specs.declared.nodes.Form.TheVariants as forms
 use Rattle.terms.specs.declared.nodes.Built.{Built}
-use Rattle.terms.specs.Tables.{IsTable, AreBelow}
+use Rattle.terms.specs.Tables.{IsTable}
 use Rattle.terms.specs.Forms.{FormFits, BuiltFits}
-use Rattle.terms.specs.Meaning.{Start, form_value, total, with_low_byte, IsValuation, IsSound, Admits, Stands}
-use Rattle.terms.specs.Rules.{interval_at, own, of_pair, mul_lo_of, mul_hi_of, and_of, or_of, xor_of, normal_of}
-use Rattle.terms.proofs.Cases.{by_if}
+use Rattle.terms.specs.Meaning.{Start, form_value, with_low_byte, IsValuation, IsSound, Admits, Stands}
+use Rattle.terms.specs.Rules.{interval_at, of_pair, mul_lo_of, mul_hi_of, and_of, or_of, xor_of, normal_of}
 use Rattle.terms.proofs.ConstantValues.{finished_stands, own_fits}
 use Rattle.terms.proofs.BitValues.{zero_stands, and_stands, or_stands, xor_stands}
 use Rattle.terms.proofs.ProductValues.{mul_lo_stands, mul_hi_stands, shr_stands, mul_lo_fits}
@@ -25,8 +24,8 @@ use Rattle.terms.proofs.Pending.{lin_stands, carry_stands, borrow_stands, lin_fi
 -- ---- two numbers in order
 
 -- a rule that keeps the word of any two numbers keeps it of the two in order, where the word does not depend on order
-pair_stands : (start : Start) (val : ℕ → ℕ) (n : ℕ) (f : ℕ → ℕ → ℕ) → ((a b : ℕ) → f a b ≡ f b a) → (rule : ℕ → ℕ → Built)
-    → ((a b : ℕ) → a < n → b < n → Stands start val (f (val a) (val b)) (rule a b)) → (a b : ℕ) → a < n → b < n
+pair_stands : (start : Start) (val : ℕ → ℕ) (n : ℕ) (f : ℕ → ℕ → ℕ) → ((a b : ℕ) → f a b ≡ f b a)
+    → (rule : ℕ → ℕ → Built) → ((a b : ℕ) → a < n → b < n → Stands start val (f (val a) (val b)) (rule a b)) → (a b : ℕ) → a < n → b < n
     → Stands start val (f (val a) (val b)) (of_pair rule a b)
 pair_stands start val n f comm rule each a b h j = ⊎_elim
     (λ (p : a < b). let least : a ≡ min a b = omega arith in let most : b ≡ max a b = omega arith in
@@ -54,8 +53,8 @@ high_comm a b = let e : a * b ≡ b * a = omega arith in ap (λ (n : ℕ). n / 2
 byte_put : (v b : ℕ) → v < 2 ^ 64 → with_low_byte v b < 2 ^ 64
 byte_put v b h = omega arith
 
-pub normal_stands : (start : Start) (val : ℕ → ℕ) (table : List Node) (form : Form) → IsTable table → FormFits table form
-    → IsValuation start table val → IsSound table val → Admits start form
+pub normal_stands : (start : Start) (val : ℕ → ℕ) (table : List Node) (form : Form) → IsTable table
+    → FormFits table form → IsValuation start table val → IsSound table val → Admits start form
     → Stands start val (form_value start val form) (normal_of table form)
 unfolding normal_of
 normal_stands start val table (forms.Const v) t f i s a = (refl, omega arith, omega arith)

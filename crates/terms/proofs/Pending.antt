@@ -1,9 +1,8 @@
 -- What the rules of sums, carries and borrows keep.
-use Rattle.std.proofs.Common.{◌≡◌, ℕ, ◌+◌, ◌/◌, ◌%◌, ◌^◌, ◌<◌, ◌≤◌, List, length}
+use Rattle.std.proofs.Common.{ℕ, ◌+◌, ◌/◌, ◌%◌, ◌^◌, ◌<◌, ◌≤◌, List, length}
 use Rattle.std.specs.Prelude.{count_by, if◌then◌else◌, nat_lt}
 use Rattle.terms.specs.declared.lists.Term.{Term}
 use Rattle.terms.specs.declared.nodes.Node.{Node}
-use Rattle.terms.specs.declared.nodes.Built.{Built}
 use Rattle.terms.specs.Tables.{IsTable, AreTermsBelow, AreBelow}
 use Rattle.terms.specs.Forms.{BuiltFits, is_no_bit}
 use Rattle.terms.specs.Meaning.{Start, weighted, total, IsValuation, IsSound, Stands}

@@ -1,15 +1,15 @@
 -- What the rules make is a number of the table, or a node that refers to its numbers alone.
-use Rattle.std.proofs.Common.{◌≡◌, ℕ, zero, suc, ◌+◌, ◌<◌, List, [], ◌∷◌, length, Bool, ◌||◌, eqb, leb, Option, Some, None}
+use Rattle.std.proofs.Common.{◌≡◌, ℕ, zero, suc, ◌+◌, ◌<◌, List, length, ◌||◌, eqb, leb, Option, Some, None}
 use Rattle.std.proofs.Common.{refl, arith}
 use Rattle.base.specs.Options.{pick}
-use Rattle.intervals.specs.Intervals.{bits_and, bits_or, bits_xor, product_low, product_high, choice}
+use Rattle.intervals.specs.Intervals.{bits_and, bits_or, bits_xor, product_high, choice}
 use Rattle.terms.specs.declared.nodes.Node.{Node}
 use Rattle.terms.specs.declared.nodes.NodeKind.TheVariants as kinds
 use Rattle.terms.specs.declared.nodes.Built.{Built}
-use Rattle.terms.specs.declared.nodes.Built.TheVariants.{Is, Make}
 use Rattle.terms.specs.Tables.{node_at, IsTable}
 use Rattle.terms.specs.Forms.{BuiltFits}
-use Rattle.terms.specs.Rules.{low_at, high_at, interval_at, constant_at, is_const, own, a_bit, covers, both_const, tested}
+use Rattle.terms.specs.Rules.{low_at, high_at, interval_at, constant_at, is_const, own, a_bit, covers, both_const}
+use Rattle.terms.specs.Rules.{tested}
 use Rattle.terms.specs.Rules.{zero_of, and_of, or_of, xor_of, mul_hi_of, select_below, select_of}
 use Rattle.terms.proofs.Cases.{by_if}
 use Rattle.terms.proofs.ConstantValues.{own_fits}
@@ -58,7 +58,8 @@ module _ (table : List Node) (t : IsTable table) where
 
   pub mul_hi_fits : (a b : ℕ) → a < length table → b < length table → BuiltFits table (mul_hi_of table a b)
   unfolding mul_hi_of
-  mul_hi_fits a b h j = own_fits table (kinds.MulHi a b) (product_high (interval_at table a) (interval_at table b)) (h, j)
+  mul_hi_fits a b h j =
+      own_fits table (kinds.MulHi a b) (product_high (interval_at table a) (interval_at table b)) (h, j)
 
   below_fits : (bound c x y : ℕ) → c < length table → x < length table → y < length table
       → BuiltFits table (select_below bound table c x y)

@@ -1,5 +1,6 @@
 -- The condition of a test turned round: the rules make the same of the selection as before.
-use Rattle.std.proofs.Common.{◌≡◌, ℕ, zero, suc, ◌+◌, ◌<◌, ◌≢◌, List, length, Bool, true, false, cond, eqb, leb, Option, Some, None}
+use Rattle.std.proofs.Common.{◌≡◌, ℕ, zero, suc, ◌+◌, ◌<◌, ◌≢◌, List, length, Bool, true, false, cond, eqb, leb}
+use Rattle.std.proofs.Common.{Option, Some, None}
 use Rattle.std.proofs.Common.{refl, ap, ◌∙◌, subst, arith}
 use Rattle.std.proofs.lemmas.Bool.Decides.{nat_tests}
 use Rattle.base.specs.Options.{pick}
@@ -8,7 +9,7 @@ use Rattle.terms.specs.declared.nodes.Node.{Node}
 use Rattle.terms.specs.declared.nodes.NodeKind.{NodeKind}
 use Rattle.terms.specs.declared.nodes.NodeKind.TheVariants as kinds
 use Rattle.terms.specs.declared.nodes.Built.{Built}
-use Rattle.terms.specs.declared.nodes.Built.TheVariants.{Is, Make}
+use Rattle.terms.specs.declared.nodes.Built.TheVariants.{Is}
 use Rattle.terms.specs.Tables.{node_at, IsTable, RefersBelow}
 use Rattle.terms.specs.Rules.{low_at, interval_at, is_const, own, tested, select_below, select_of}
 
@@ -36,7 +37,8 @@ unfolding select_below
 same_below table t zero n c x y p q h = absurd (omega arith)
 same_below table t (suc m) zero c x y p q h = absurd (omega arith)
 same_below table t (suc m) (suc n) c x y p q h =
-    ap (λ (r : Built). cond (leb 1 (low_at table c)) (Is y) (cond (is_const table c 0) (Is x) (cond (eqb x y) (Is x) r)))
+    ap (λ (r : Built). cond (leb 1 (low_at table c)) (Is y)
+    (cond (is_const table c 0) (Is x) (cond (eqb x y) (Is x) r)))
     (pick_same (tested (node_at table c).kind) (λ b. select_below m table b y x) (λ b. select_below n table b y x)
     (own (kinds.Select c x y) (choice (interval_at table x) (interval_at table y)))
     (λ b e. let l = tested_below table t c b h e in

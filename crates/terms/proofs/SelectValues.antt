@@ -1,13 +1,12 @@
 -- The rules of a selection keep its word, and what they make has it in its interval.
-use Rattle.std.proofs.Common.{◌≡◌, ℕ, zero, suc, ◌+◌, ◌<◌, ◌≤◌, List, length, Bool, true, false, cond, eqb, leb, min, max}
+use Rattle.std.proofs.Common.{◌≡◌, ℕ, zero, suc, ◌+◌, ◌<◌, ◌≤◌, List, length, Bool, true, false, cond, eqb, leb, min}
+use Rattle.std.proofs.Common.{max}
 use Rattle.std.proofs.Common.{Option, Some, None, refl, sym, ap, ◌∙◌, subst, arith}
-use Rattle.std.proofs.lemmas.Bool.Decides.{nat_tests}
 use Rattle.base.specs.Options.{pick}
 use Rattle.intervals.specs.Intervals.{choice}
 use Rattle.terms.specs.declared.nodes.Node.{Node}
 use Rattle.terms.specs.declared.nodes.NodeKind.TheVariants as kinds
 use Rattle.terms.specs.declared.nodes.Built.{Built}
-use Rattle.terms.specs.declared.nodes.Built.TheVariants.{Is, Make}
 use Rattle.terms.specs.Tables.{node_at, IsTable}
 use Rattle.terms.specs.Meaning.{Start, kind_value, IsValuation, IsSound, Stands}
 use Rattle.terms.specs.Rules.{low_at, high_at, interval_at, is_const, own, tested, select_below, select_of}
@@ -20,10 +19,12 @@ abbrev chosen : ℕ → ℕ → ℕ → ℕ
 chosen c x y = cond (eqb c 0) x y
 
 chosen_second : (c x y : ℕ) → 1 ≤ c → y ≡ chosen c x y
-chosen_second c x y h = by_if (λ (v : ℕ). y ≡ v) (eqb c 0) x y (λ e. let f = from_eqb c 0 e in absurd (omega arith)) (λ _. refl)
+chosen_second c x y h =
+    by_if (λ (v : ℕ). y ≡ v) (eqb c 0) x y (λ e. let f = from_eqb c 0 e in absurd (omega arith)) (λ _. refl)
 
 chosen_same : (c x y : ℕ) → x ≡ y → x ≡ chosen c x y
-chosen_same c x y h = by_if (λ (v : ℕ). x ≡ v) (eqb c 0) x y (λ _. refl) (λ _. h)
+chosen_same c x y h =
+    by_if (λ (v : ℕ). x ≡ v) (eqb c 0) x y (λ _. refl) (λ _. h)
 
 -- a test and its own word choose the other way round
 chosen_turned : (c b x y : ℕ) → c ≡ cond (eqb b 0) 1 0 → chosen b y x ≡ chosen c x y
@@ -57,7 +58,8 @@ module _ (start : Start) (val : ℕ → ℕ) (table : List Node) (t : IsTable ta
       (λ _. by_if P (eqb x y) _ _ (λ e. chosen_same (val c) (val x) (val y) (ap val (from_eqb x y e)))
       (λ _. by_tested (λ b l. below_stands bound b y x (omega arith) (omega arith) k j)
       (tested (node_at table c).kind) refl))) where
-        by_tested : ((b : ℕ) → b < c → Stands start val (chosen (val b) (val y) (val x)) (select_below bound table b y x))
+        by_tested : ((b : ℕ) → b < c
+            → Stands start val (chosen (val b) (val y) (val x)) (select_below bound table b y x))
             → (o : Option ℕ) → tested (node_at table c).kind ≡ o
             → Stands start val (chosen (val c) (val x) (val y)) (pick o (λ b. select_below bound table b y x)
             (own (kinds.Select c x y) (choice (interval_at table x) (interval_at table y))))
