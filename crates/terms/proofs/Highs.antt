@@ -127,7 +127,8 @@ below_high table (suc bound) c x y =
     (λ _. by_if P (is_const table c 0) _ _ (λ _. omega arith)
     (λ _. by_if P (eqb x y) _ _ (λ _. omega arith)
     (λ _. by_tested (λ b. below_high table bound b y x) (tested (node_at table c).kind)))) where
-      by_tested : ((b : ℕ) → IsHighBuilt table (max (high_at table y) (high_at table x)) (select_below bound table b y x))
+      by_tested : ((b : ℕ)
+          → IsHighBuilt table (max (high_at table y) (high_at table x)) (select_below bound table b y x))
           → (o : Option ℕ)
           → IsHighBuilt table (max (high_at table x) (high_at table y)) (pick o (λ b. select_below bound table b y x)
           (own (kinds.Select c x y) (choice (interval_at table x) (interval_at table y))))

@@ -25,7 +25,8 @@ use Rattle.terms.proofs.Pending.{lin_stands, carry_stands, borrow_stands, lin_fi
 
 -- a rule that keeps the word of any two numbers keeps it of the two in order, where the word does not depend on order
 pair_stands : (start : Start) (val : ℕ → ℕ) (n : ℕ) (f : ℕ → ℕ → ℕ) → ((a b : ℕ) → f a b ≡ f b a)
-    → (rule : ℕ → ℕ → Built) → ((a b : ℕ) → a < n → b < n → Stands start val (f (val a) (val b)) (rule a b)) → (a b : ℕ) → a < n → b < n
+    → (rule : ℕ → ℕ → Built) → ((a b : ℕ) → a < n → b < n → Stands start val (f (val a) (val b)) (rule a b))
+    → (a b : ℕ) → a < n → b < n
     → Stands start val (f (val a) (val b)) (of_pair rule a b)
 pair_stands start val n f comm rule each a b h j = ⊎_elim
     (λ (p : a < b). let least : a ≡ min a b = omega arith in let most : b ≡ max a b = omega arith in

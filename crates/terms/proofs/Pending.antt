@@ -15,7 +15,8 @@ module _ (start : Start) (val : ℕ → ℕ) (table : List Node) (t : IsTable ta
   lin_stands k terms a few = ?
 
   pub carry_stands : (list : List ℕ) → AreBelow (length table) list → length list ≤ 3
-      → count_by (is_no_bit table) list ≤ 2 → Stands start val (total val list / 2 ^ 64) (carry_of table (by_number list))
+      → count_by (is_no_bit table) list ≤ 2
+      → Stands start val (total val list / 2 ^ 64) (carry_of table (by_number list))
   carry_stands list a few wide = ?
 
   pub borrow_stands : (a : ℕ) (list : List ℕ) → a < length table → AreBelow (length table) list

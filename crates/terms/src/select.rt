@@ -30,7 +30,7 @@ fn tested(node: &Node) -> Option<u32>
 }
 
 /// `x` where `c` is 0, else `y`.
-#[tactic(auto, using(crate::proofs::SelectTurns::select_turned, crate::proofs::SelectTurns::tested_below), unfolding(crate::specs::Rules::select_of, crate::specs::Rules::select_below))]
+#[tactic(auto, unfolding(crate::specs::Rules::select_of, crate::specs::Rules::select_below))]
 pub fn select_form<N: Nodes>(nodes: &N, c: u32, x: u32, y: u32) -> Built
     requires c_in { c < length (N.nodes nodes.now) }
     requires x_in { x < length (N.nodes nodes.now) }
