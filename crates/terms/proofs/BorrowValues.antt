@@ -1,5 +1,5 @@
 -- The borrow that the rules make stands for whether the node is below the sum.
-use Rattle.std.proofs.Common.{◌≡◌, ℕ, suc, ◌+◌, ◌<◌, ◌≤◌, List, [], ◌∷◌, length, get_or, Bool, true, false, cond}
+use Rattle.std.proofs.Common.{◌≡◌, ℕ, zero, suc, ◌+◌, ◌<◌, ◌≤◌, List, [], ◌∷◌, length, get_or, Bool, true, false, cond}
 use Rattle.std.proofs.Common.{◌&&◌, eqb, leb, ltb, refl, sym, ap, ◌∙◌, subst, arith}
 use Rattle.std.specs.List.{sum_by}
 use Rattle.std.proofs.lemmas.Bool.Decides.{nat_tests}
@@ -30,7 +30,7 @@ below_is_bit true = omega arith
 below_is_bit false = omega arith
 
 below_of_bit : (y : ℕ) → y ≤ 1 → y ≡ below 0 y
-below_of_bit 0 h = refl
+below_of_bit zero h = refl
 below_of_bit (suc y) h = let z : y ≡ 0 = omega arith in ap suc z ∙ sym (below_is_1 0 (suc y) (omega arith))
 
 module _ (start : Start) (val : ℕ → ℕ) (table : List Node) (t : IsTable table) (i : IsValuation start table val)
@@ -45,8 +45,6 @@ module _ (start : Start) (val : ℕ → ℕ) (table : List Node) (t : IsTable ta
       → Stands start val (below (val a) (total val ms)) (borrow_left table a ms)
   unfolding borrow_left
   left_stands a ms h inside =
-      let b = get_or ms 0 0 in
-      let small = leb (node_at table (get_or ms 0 0)).high 1 in
       by_if (Stands start val (below (val a) (total val ms)))
       (is_const table a 0 && (eqb (length ms) 1 && leb (node_at table (get_or ms 0 0)).high 1)) _ _
       (λ e.

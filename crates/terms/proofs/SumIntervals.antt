@@ -4,7 +4,8 @@ use Rattle.std.proofs.Common.{Bool, true, false, cond, ◌&&◌, ◌||◌, eqb, 
 use Rattle.std.specs.List.{sum_by, list_any}
 use Rattle.std.proofs.lemmas.Nat.{mul-le}
 use Rattle.std.proofs.lemmas.List.Sums.{sum_by-cons}
-use Rattle.intervals.proofs.RowLemmas.{Lies, lies_full, window_lies}
+use Rattle.intervals.specs.Intervals.{window}
+use Rattle.intervals.proofs.Lies.{Lies, lies_full, window_lies}
 use Rattle.terms.specs.declared.lists.Term.{Term}
 use Rattle.terms.specs.declared.nodes.Node.{Node}
 use Rattle.terms.specs.declared.nodes.NodeKind.{NodeKind}
@@ -107,7 +108,7 @@ module _ (val : ℕ → ℕ) where
           let v = k + 2 ^ 110 + sum_by up_val ts - sum_by down_val ts in
           let same : v % 2 ^ 64 ≡ (k + weighted val ts) % 2 ^ 64 = wrapped v (k + weighted val ts) (sum_by wrap_val ts)
               (omega arith) in
-          subst (λ (w : ℕ). Lies w _) same
+          subst (λ (w : ℕ). Lies w (window (least_sum table k ts) (greatest_sum table k ts))) same
           (window_lies (least_sum table k ts) (greatest_sum table k ts) v (omega arith) (omega arith))) where
         wrapped : (v w z : ℕ) → w + 2 ^ 64 * 2 ^ 46 ≡ v + 2 ^ 64 * z → v % 2 ^ 64 ≡ w % 2 ^ 64
         wrapped v w z e = omega arith
@@ -126,7 +127,7 @@ module _ (start : Start) (val : ℕ → ℕ) (table : List Node) (t : IsTable ta
   one_term k [] a e =
       let f : 0 ≡ 1 = from_eqb 0 1 (first_true (eqb 0 1) (eqb (get_or [] 0 no_term).times 1)
           (second_true (eqb k 0) _ e)) in
-      absurd (omega arith)
+      absurd (omega (arith, f))
   one_term k (u ∷ []) a e =
       let z = from_eqb k 0 (first_true _ _ e) in
       let o = from_eqb u.times 1 (second_true (eqb (length (u ∷ [])) 1) _ (second_true (eqb k 0) _ e)) in
@@ -134,8 +135,9 @@ module _ (start : Start) (val : ℕ → ℕ) (table : List Node) (t : IsTable ta
       let w = s.word u.node a.0 in
       omega arith
   one_term k (u ∷ v ∷ ts) a e =
-      let f = from_eqb (length (u ∷ v ∷ ts)) 1 (first_true _ _ (second_true (eqb k 0) _ e)) in
-      absurd (omega arith)
+      let f : length (u ∷ v ∷ ts) ≡ 1 = from_eqb (length (u ∷ v ∷ ts)) 1
+          (first_true (eqb (length (u ∷ v ∷ ts)) 1) _ (second_true (eqb k 0) _ e)) in
+      absurd (omega (arith, f))
 
   none_left : (k : ℕ) (ts : List Term) → k < 2 ^ 64 → eqb (length ts) 0 ≡ true → k ≡ (k + weighted val ts) % 2 ^ 64
   none_left k [] h e = omega arith
@@ -161,10 +163,8 @@ module _ (start : Start) (val : ℕ → ℕ) (table : List Node) (t : IsTable ta
       → Stands start val ((k + weighted val ts) % 2 ^ 64) (lin_of table k ts)
   unfolding lin_of
   lin_stands k ts a few =
-      let l = sum_constant false table k ts in
-      let ws = sum_terms false table ts in
       let wide = sum_value start val false table k ts t i a in
-      let few = sum_terms_few table ts t a in
+      let fewer = sum_terms_few table ts t a in
       let b = sum_lies val table s (sum_constant false table k ts) (sum_terms false table ts)
           (sum_terms_are false table ts t a) (omega arith) in
       let low = b.low in
