@@ -19,7 +19,10 @@ use Rattle.terms.proofs.BitValues.{zero_stands, and_stands, or_stands, xor_stand
 use Rattle.terms.proofs.ProductValues.{mul_lo_stands, mul_hi_stands, shr_stands, mul_lo_fits}
 use Rattle.terms.proofs.SelectValues.{select_stands}
 use Rattle.terms.proofs.RuleFits.{zero_fits, and_fits, or_fits, xor_fits, mul_hi_fits, select_fits}
-use Rattle.terms.proofs.Pending.{lin_stands, carry_stands, borrow_stands, lin_fits, carry_fits, borrow_fits}
+use Rattle.terms.proofs.SumIntervals.{lin_stands}
+use Rattle.terms.proofs.CarryValues.{carry_stands}
+use Rattle.terms.proofs.BorrowValues.{borrow_stands}
+use Rattle.terms.proofs.SumsFit.{lin_fits, carry_fits, borrow_fits}
 
 -- ---- two numbers in order
 
@@ -69,7 +72,7 @@ normal_stands start val table (forms.Borrow n list) t f i s a = borrow_stands st
 normal_stands start val table (forms.Zero x) t f i s a = zero_stands start val table t i s x f
 normal_stands start val table (forms.MulLo m n) t f i s a =
     pair_stands start val (length table) (λ x y. x * y % 2 ^ 64) low_comm (mul_lo_of table)
-    (mul_lo_stands start val table t i s (lin_stands start val table t i s)) m n f.0 f.1
+    (mul_lo_stands start val table t i s) m n f.0 f.1
 normal_stands start val table (forms.MulHi m n) t f i s a =
     pair_stands start val (length table) (λ x y. x * y / 2 ^ 64) high_comm (mul_hi_of table)
     (mul_hi_stands start val table t i s) m n f.0 f.1
@@ -92,12 +95,12 @@ normal_fits table (forms.Const v) t f = tt
 normal_fits table (forms.Start reg) t f = own_fits table (kinds.Start reg) full tt
 normal_fits table (forms.In param word low high) t f =
     own_fits table (kinds.In param word) (record { low = low; high = high }) tt
-normal_fits table (forms.Lin k terms) t f = lin_fits table t k terms f.0 f.1
+normal_fits table (forms.Lin k terms) t f = lin_fits table t k terms f.0
 normal_fits table (forms.Carry list) t f = carry_fits table t list f.0
 normal_fits table (forms.Borrow a list) t f = borrow_fits table t a list f.0 f.1
 normal_fits table (forms.Zero x) t f = zero_fits table t x f
 normal_fits table (forms.MulLo a b) t f =
-    pair_fits table (mul_lo_of table) (mul_lo_fits table t (lin_fits table t)) a b f.0 f.1
+    pair_fits table (mul_lo_of table) (mul_lo_fits table t) a b f.0 f.1
 normal_fits table (forms.MulHi a b) t f = pair_fits table (mul_hi_of table) (mul_hi_fits table t) a b f.0 f.1
 normal_fits table (forms.And a b) t f = pair_fits table (and_of table) (and_fits table t) a b f.0 f.1
 normal_fits table (forms.Or a b) t f = pair_fits table (or_of table) (or_fits table t) a b f.0 f.1

@@ -11,21 +11,7 @@ pub fn constant(node: &Node) -> Option<u64>
 {
     match &node.kind {
         NodeKind::Const(v) => Some(*v),
-        NodeKind::Start(_) => None,
-        NodeKind::In { .. } => None,
-        NodeKind::Sum { .. } => None,
-        NodeKind::Wide { .. } => None,
-        NodeKind::Carry(_) => None,
-        NodeKind::Borrow { .. } => None,
-        NodeKind::Zero(_) => None,
-        NodeKind::MulLo(..) => None,
-        NodeKind::MulHi(..) => None,
-        NodeKind::And(..) => None,
-        NodeKind::Or(..) => None,
-        NodeKind::Xor(..) => None,
-        NodeKind::Shr { .. } => None,
-        NodeKind::Select { .. } => None,
-        NodeKind::SetB { .. } => None,
+        _ => None,
     }
 }
 

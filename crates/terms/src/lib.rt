@@ -11,9 +11,11 @@ mod carry;
 mod constants;
 mod lists;
 mod nodes;
+mod numbers;
 mod products;
 mod rules;
 mod select;
+mod sum_interval;
 mod sums;
 
 pub use lists::{Numbers, Term, Terms};

@@ -10,22 +10,8 @@ fn tested(node: &Node) -> Option<u32>
     ensures { result ≡ tested node.now.kind }
 {
     match &node.kind {
-        NodeKind::Const(_) => None,
-        NodeKind::Start(_) => None,
-        NodeKind::In { .. } => None,
-        NodeKind::Sum { .. } => None,
-        NodeKind::Wide { .. } => None,
-        NodeKind::Carry(_) => None,
-        NodeKind::Borrow { .. } => None,
         NodeKind::Zero(x) => Some(*x),
-        NodeKind::MulLo(..) => None,
-        NodeKind::MulHi(..) => None,
-        NodeKind::And(..) => None,
-        NodeKind::Or(..) => None,
-        NodeKind::Xor(..) => None,
-        NodeKind::Shr { .. } => None,
-        NodeKind::Select { .. } => None,
-        NodeKind::SetB { .. } => None,
+        _ => None,
     }
 }
 
