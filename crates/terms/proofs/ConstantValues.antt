@@ -1,5 +1,5 @@
 -- Constants have their word, and a node whose interval is one word has it.
-use Rattle.std.proofs.Common.{◌≡◌, ℕ, ◌<◌, ◌≤◌, Bool, true, false, eqb, Option, Some, None, List, length, refl, ap, ◌∙◌}
+use Rattle.std.proofs.Common.{◌≡◌, ℕ, ◌<◌, ◌≤◌, true, false, eqb, Option, Some, None, List, length, ap, ◌∙◌}
 use Rattle.std.proofs.Common.{arith}
 use Rattle.intervals.specs.declared.interval.Interval.{Interval}
 use Rattle.terms.specs.declared.nodes.Node.{Node}
@@ -23,7 +23,8 @@ is_some : (o : Option ℕ) (v : ℕ) → is_value o v ≡ true → o ≡ Some v
 is_some None v e = absurd (let f : false ≡ true = e in cc)
 is_some (Some w) v e = ap Some (from_eqb w v e)
 
-module _ (start : Start) (val : ℕ → ℕ) (table : List Node) (i : IsValuation start table val) (s : IsSound table val) where
+module _ (start : Start) (val : ℕ → ℕ) (table : List Node) (i : IsValuation start table val)
+    (s : IsSound table val) where
   pub const_value : (n v : ℕ) → n < length table → constant_at table n ≡ Some v → val n ≡ v
   const_value n v h e = i.meets n h ∙ ap (kind_value start val) (const_kind (node_at table n).kind v e)
 

@@ -21,7 +21,11 @@ pub fn constant(node: &Node) -> Option<u64>
 pub fn constant_node(v: u64) -> Node
     ensures { result ≡ const_node v }
 {
-    Node { kind: NodeKind::Const(v), low: v, high: v }
+    Node {
+        kind: NodeKind::Const(v),
+        low: v,
+        high: v,
+    }
 }
 
 /// A node with its interval; the constant where the interval is one word.
@@ -32,7 +36,11 @@ pub fn finish(kind: NodeKind, interval: Interval) -> Node
     if interval.low == interval.high {
         return constant_node(interval.low);
     }
-    Node { kind, low: interval.low, high: interval.high }
+    Node {
+        kind,
+        low: interval.low,
+        high: interval.high,
+    }
 }
 
 /// Whether what was found is this constant.

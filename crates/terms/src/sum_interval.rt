@@ -26,7 +26,11 @@ fn up(times: u64) -> u64
 fn down(times: u64) -> u64
     ensures { result ≡ spec.down times }
 {
-    if times < 1 << 63 { 0 } else { u64::MAX - times + 1 }
+    if times < 1 << 63 {
+        0
+    } else {
+        u64::MAX - times + 1
+    }
 }
 
 /// The interval of a constant and at most 16 terms.
