@@ -1,6 +1,6 @@
 //! The borrow of a difference: whether a node is below a sum of nodes.
 
-ghost use Rattle.std.specs.Prelude.{◌≡◌, ℕ, ◌<◌, ◌≤◌, List, length, IfOk};
+ghost use Rattle.std.specs.Prelude.{◌≡◌, ◌<◌, length, IfOk};
 ghost use Rattle.terms.specs.Rules.{borrow_left, borrow_of, by_number};
 ghost use Rattle.terms.specs.Tables.{AreBelow};
 

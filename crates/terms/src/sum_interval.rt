@@ -1,12 +1,12 @@
 //! The interval of a sum of terms.
 
-ghost use Rattle.std.specs.Prelude.{◌≡◌, ℕ, ◌<◌, ◌≤◌, List, length};
+ghost use Rattle.std.specs.Prelude.{◌≡◌, ◌≤◌, length};
 ghost use Rattle.terms.specs.Rules.{max_terms};
 ghost use Rattle.terms.specs.Sums as spec;
-ghost use Rattle.terms.specs.Tables.{node_at, AreTermsBelow};
+ghost use Rattle.terms.specs.Tables.{AreTermsBelow};
 
 use crate::lists::Term;
-use crate::nodes::{Node, Nodes};
+use crate::nodes::Nodes;
 use intervals::{Interval, full, product, window};
 
 /// From here on a term is too far above or below 0.
