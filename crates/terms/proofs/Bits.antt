@@ -1,5 +1,5 @@
 -- Carries and borrows are bits: a number whose node is at most 1, or a node that is.
-use Rattle.std.proofs.Common.{◌≡◌, ℕ, ◌-◌, ◌^◌, ◌≤◌, List, length, get_or, Bool, true, false, ◌&&◌, eqb, leb, ltb, arith}
+use Rattle.std.proofs.Common.{◌≡◌, ℕ, ◌-◌, ◌^◌, ◌≤◌, List, length, get_or, Bool, true, ◌&&◌, eqb, leb, ltb, arith}
 use Rattle.std.specs.List.{sum_by}
 use Rattle.terms.specs.declared.nodes.Node.{Node}
 use Rattle.terms.specs.declared.nodes.NodeKind.{NodeKind}

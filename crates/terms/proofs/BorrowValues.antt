@@ -1,5 +1,5 @@
 -- The borrow that the rules make stands for whether the node is below the sum.
-use Rattle.std.proofs.Common.{◌≡◌, ℕ, zero, suc, ◌+◌, ◌<◌, ◌≤◌, List, [], ◌∷◌, length, get_or, Bool, true, false, cond}
+use Rattle.std.proofs.Common.{◌≡◌, ℕ, zero, suc, ◌<◌, ◌≤◌, List, [], ◌∷◌, length, get_or, Bool, true, false, cond}
 use Rattle.std.proofs.Common.{◌&&◌, eqb, leb, ltb, refl, sym, ap, ◌∙◌, subst, arith}
 use Rattle.std.specs.List.{sum_by}
 use Rattle.std.proofs.lemmas.Bool.Decides.{nat_tests}
@@ -48,13 +48,13 @@ module _ (start : Start) (val : ℕ → ℕ) (table : List Node) (t : IsTable ta
       by_if (Stands start val (below (val a) (total val ms)))
       (is_const table a 0 && (eqb (length ms) 1 && leb (node_at table (get_or ms 0 0)).high 1)) _ _
       (λ e.
-        let rest = second_true (is_const table a 0) _ e in
-        let p = single ms inside (first_true (eqb (length ms) 1) _ rest) in
-        let z = is_const_value start val table i s a 0 h (first_true (is_const table a 0) _ e) in
-        let low = from_leb (node_at table (get_or ms 0 0)).high 1 (second_true (eqb (length ms) 1) _ rest) in
-        let within = s.below (get_or ms 0 0) p.0 in
-        let one = below_of_bit (val (get_or ms 0 0)) (omega arith) in
-        one ∙ (λ j. below (sym z j) (sym p.1 j)))
+      let rest = second_true (is_const table a 0) _ e in
+      let p = single ms inside (first_true (eqb (length ms) 1) _ rest) in
+      let z = is_const_value start val table i s a 0 h (first_true (is_const table a 0) _ e) in
+      let low = from_leb (node_at table (get_or ms 0 0)).high 1 (second_true (eqb (length ms) 1) _ rest) in
+      let within = s.below (get_or ms 0 0) p.0 in
+      let one = below_of_bit (val (get_or ms 0 0)) (omega arith) in
+      one ∙ (λ j. below (sym z j) (sym p.1 j)))
       (λ _. finished_stands start val (kinds.Borrow a ms) a_bit (below (val a) (total val ms)) refl (omega arith)
       (below_is_bit (ltb (val a) (total val ms))))
 
@@ -70,14 +70,14 @@ module _ (start : Start) (val : ℕ → ℕ) (table : List Node) (t : IsTable ta
       let same = total_left start val table i s ms inside in
       by_if P (leb (sum_by (high_at table) ms) (low_at table a)) _ _
       (λ e.
-        let b = from_leb (sum_by (high_at table) ms) (low_at table a) e in
-        let z = below_is_0 (val a) (total val ms) (omega arith) in
-        (omega arith, omega arith, omega arith))
+      let b = from_leb (sum_by (high_at table) ms) (low_at table a) e in
+      let z = below_is_0 (val a) (total val ms) (omega arith) in
+      (omega arith, omega arith, omega arith))
       (λ _. by_if P (ltb (high_at table a) (sum_by (low_at table) ms)) _ _
       (λ e.
-        let b = from_leb (suc (high_at table a)) (sum_by (low_at table) ms) e in
-        let z = below_is_1 (val a) (total val ms) (omega arith) in
-        (omega arith, omega arith, omega arith))
+      let b = from_leb (suc (high_at table a)) (sum_by (low_at table) ms) e in
+      let z = below_is_1 (val a) (total val ms) (omega arith) in
+      (omega arith, omega arith, omega arith))
       (λ _. subst (λ (v : ℕ). Stands start val (below (val a) v) (borrow_left table a (without_zeros table ms))) same
       (left_stands a (without_zeros table ms) h (filter_below (length table) (is_left table) ms inside))))
 

@@ -1,6 +1,6 @@
 -- The carry that the rules make stands for the carry of the sum.
 use Rattle.std.proofs.Common.{◌≡◌, ℕ, suc, ◌+◌, ◌-◌, ◌*◌, ◌/◌, ◌^◌, ◌<◌, ◌≤◌, List, [], ◌∷◌, length, get_or}
-use Rattle.std.proofs.Common.{Bool, true, false, ◌&&◌, eqb, leb, ltb, refl, subst, arith}
+use Rattle.std.proofs.Common.{true, ◌&&◌, eqb, leb, ltb, refl, subst, arith}
 use Rattle.std.specs.List.{sum_by, count_by}
 use Rattle.terms.specs.declared.nodes.Node.{Node}
 use Rattle.terms.specs.declared.nodes.NodeKind.TheVariants as kinds
@@ -22,7 +22,7 @@ module _ (start : Start) (val : ℕ → ℕ) (table : List Node) (t : IsTable ta
   passed m n v h j e p =
       let a = is_const_value start val table i s m (2 ^ 64 - 1) h (first_true _ _ e) in
       let b : (node_at table n).high ≤ 1 = from_leb (node_at table n).high 1
-          (second_true (is_const table m (2 ^ 64 - 1)) (leb (node_at table n).high 1) e) in
+      (second_true (is_const table m (2 ^ 64 - 1)) (leb (node_at table n).high 1) e) in
       let c = s.below n j in
       omega arith
 
@@ -31,9 +31,11 @@ module _ (start : Start) (val : ℕ → ℕ) (table : List Node) (t : IsTable ta
       × (total val ms ≡ val (get_or ms 0 0) + val (get_or ms 1 0))
   pair [] a e = cc
   pair (m ∷ []) a e = cc
-  pair (m ∷ n ∷ []) a e =
-      (head_below (length table) m (n ∷ []) a,
-      head_below (length table) n [] (tail_below (length table) m (n ∷ []) a), omega arith)
+  pair (m ∷ n ∷ []) a e = (
+    head_below (length table) m (n ∷ []) a,
+    head_below (length table) n [] (tail_below (length table) m (n ∷ []) a),
+    omega arith,
+  )
   pair (m ∷ n ∷ o ∷ ms) a e = let f = from_eqb (length (m ∷ n ∷ o ∷ ms)) 2 e in absurd (omega arith)
 
   left_stands : (ms : List ℕ) → AreBelow (length table) ms → total val ms < 2 * 2 ^ 64
@@ -45,8 +47,8 @@ module _ (start : Start) (val : ℕ → ℕ) (table : List Node) (t : IsTable ta
       (λ e. let p = pair ms a (first_true _ _ e) in passed _ _ _ p.0 p.1 (second_true _ _ e) p.2)
       (λ _. by_if P (eqb (length ms) 2 && passes table (get_or ms 1 0) (get_or ms 0 0)) _ _
       (λ e. let p = pair ms a (first_true _ _ e) in
-          let both = p.2 in
-          passed _ _ _ p.1 p.0 (second_true _ _ e) (omega arith))
+      let both = p.2 in
+      passed _ _ _ p.1 p.0 (second_true _ _ e) (omega arith))
       (λ _. finished_stands start val (kinds.Carry ms) a_bit (total val ms / 2 ^ 64) refl (omega arith) (omega arith)))
 
   ordered_stands : (ms : List ℕ) → AreBelow (length table) ms → total val ms < 2 * 2 ^ 64

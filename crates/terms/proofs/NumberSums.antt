@@ -1,6 +1,6 @@
 -- Sums of the words of nodes, against the sums of their ends.
-use Rattle.std.proofs.Common.{◌≡◌, ℕ, ◌+◌, ◌-◌, ◌*◌, ◌^◌, ◌<◌, ◌≤◌, List, [], ◌∷◌, length, filter, Bool, true, false}
-use Rattle.std.proofs.Common.{cond, not, ltb, refl, ◌∙◌, arith}
+use Rattle.std.proofs.Common.{◌≡◌, ℕ, ◌+◌, ◌-◌, ◌*◌, ◌^◌, ◌<◌, ◌≤◌, List, [], ◌∷◌, length, Bool, true, false}
+use Rattle.std.proofs.Common.{cond, not, ltb, refl, arith}
 use Rattle.std.specs.List.{sum_by, count_by}
 use Rattle.std.proofs.lemmas.Bool.Decides.{nat_tests}
 use Rattle.std.proofs.lemmas.List.Sums.{sum_by-cons}
@@ -13,7 +13,8 @@ use Rattle.terms.proofs.Cases.{by_if}
 use Rattle.terms.proofs.ConstantValues.{is_const_value}
 use Rattle.terms.proofs.NumberLists.{total_is_sum, head_below, tail_below}
 
-module _ (start : Start) (val : ℕ → ℕ) (table : List Node) (i : IsValuation start table val) (s : IsSound table val) where
+module _ (start : Start) (val : ℕ → ℕ) (table : List Node) (i : IsValuation start table val)
+    (s : IsSound table val) where
   abbrev Inside : List ℕ → Type 0
   Inside ms = AreBelow (length table) ms
 

@@ -1,5 +1,5 @@
 -- A sum of terms: its interval has its word, and what the rules make of it stands for it.
-use Rattle.std.proofs.Common.{◌≡◌, ℕ, zero, suc, ◌+◌, ◌-◌, ◌*◌, ◌^◌, ◌%◌, ◌<◌, ◌≤◌, List, [], ◌∷◌, length, get_or}
+use Rattle.std.proofs.Common.{◌≡◌, ℕ, ◌+◌, ◌-◌, ◌*◌, ◌^◌, ◌%◌, ◌<◌, ◌≤◌, List, [], ◌∷◌, length, get_or}
 use Rattle.std.proofs.Common.{Bool, true, false, cond, ◌&&◌, ◌||◌, eqb, leb, ltb, refl, ap, ◌∙◌, subst, arith}
 use Rattle.std.specs.List.{sum_by, list_any}
 use Rattle.std.proofs.lemmas.Nat.{mul-le}
@@ -8,10 +8,8 @@ use Rattle.intervals.specs.Intervals.{window}
 use Rattle.intervals.proofs.Lies.{Lies, lies_full, window_lies}
 use Rattle.terms.specs.declared.lists.Term.{Term}
 use Rattle.terms.specs.declared.nodes.Node.{Node}
-use Rattle.terms.specs.declared.nodes.NodeKind.{NodeKind}
 use Rattle.terms.specs.declared.nodes.NodeKind.TheVariants as kinds
 use Rattle.terms.specs.declared.nodes.Built.{Built}
-use Rattle.terms.specs.declared.nodes.Built.TheVariants.{Is, Make}
 use Rattle.terms.specs.Tables.{node_at, IsTable, AreTermsBelow}
 use Rattle.terms.specs.Sums.{up, down, is_far, up_low, up_high, down_low, down_high, least_sum, greatest_sum}
 use Rattle.terms.specs.Sums.{sum_constant, sum_terms, sum_interval}
@@ -95,23 +93,23 @@ module _ (val : ℕ → ℕ) where
         by_if (Lies ((k + weighted val ts) % 2 ^ 64)) (list_any (is_far table) ts) _ _
         (λ e. lies_full _ (omega arith))
         (λ e.
-          let above = λ (f : ℕ → ℕ) (t : Term) (h : t.node < length table).
-              mul-le (f t.times) (node_at table t.node).low (f t.times) (val t.node) (omega arith) (s.above t.node h) in
-          let below = λ (f : ℕ → ℕ) (t : Term) (h : t.node < length table).
-              mul-le (f t.times) (val t.node) (f t.times) (node_at table t.node).high (omega arith) (s.below t.node h) in
-          let u1 = sum_le (up_low table) up_val (above up) ts a in
-          let u2 = sum_le up_val (up_high table) (below up) ts a in
-          let d1 = sum_le (down_low table) down_val (above down) ts a in
-          let d2 = sum_le down_val (down_high table) (below down) ts a in
-          let m = down_few ts a e in
-          let g = signed_sum (length table) ts a in
-          let v = k + 2 ^ 110 + sum_by up_val ts - sum_by down_val ts in
-          let same : v % 2 ^ 64 ≡ (k + weighted val ts) % 2 ^ 64 = wrapped v (k + weighted val ts) (sum_by wrap_val ts)
-              (omega arith) in
-          subst (λ (w : ℕ). Lies w (window (least_sum table k ts) (greatest_sum table k ts))) same
-          (window_lies (least_sum table k ts) (greatest_sum table k ts) v (omega arith) (omega arith))) where
-        wrapped : (v w z : ℕ) → w + 2 ^ 64 * 2 ^ 46 ≡ v + 2 ^ 64 * z → v % 2 ^ 64 ≡ w % 2 ^ 64
-        wrapped v w z e = omega arith
+        let above = λ (f : ℕ → ℕ) (t : Term) (h : t.node < length table).
+        mul-le (f t.times) _ (f t.times) (val t.node) (omega arith) (s.above t.node h) in
+        let below = λ (f : ℕ → ℕ) (t : Term) (h : t.node < length table).
+        mul-le (f t.times) (val t.node) (f t.times) _ (omega arith) (s.below t.node h) in
+        let u1 = sum_le (up_low table) up_val (above up) ts a in
+        let u2 = sum_le up_val (up_high table) (below up) ts a in
+        let d1 = sum_le (down_low table) down_val (above down) ts a in
+        let d2 = sum_le down_val (down_high table) (below down) ts a in
+        let m = down_few ts a e in
+        let g = signed_sum (length table) ts a in
+        let v = k + 2 ^ 110 + sum_by up_val ts - sum_by down_val ts in
+        let same : v % 2 ^ 64 ≡ (k + weighted val ts) % 2 ^ 64 = wrapped v (k + weighted val ts) (sum_by wrap_val ts)
+        (omega arith) in
+        subst (λ (w : ℕ). Lies w (window (least_sum table k ts) (greatest_sum table k ts))) same
+        (window_lies (least_sum table k ts) (greatest_sum table k ts) v (omega arith) (omega arith))) where
+          wrapped : (v w z : ℕ) → w + 2 ^ 64 * 2 ^ 46 ≡ v + 2 ^ 64 * z → v % 2 ^ 64 ≡ w % 2 ^ 64
+          wrapped v w z e = omega arith
 
 sum_constant_word : (opens : Bool) (table : List Node) (k : ℕ) (ts : List Term) → sum_constant opens table k ts < 2 ^ 64
 unfolding sum_constant
@@ -126,7 +124,7 @@ module _ (start : Start) (val : ℕ → ℕ) (table : List Node) (t : IsTable ta
       → val (get_or ts 0 no_term).node ≡ (k + weighted val ts) % 2 ^ 64
   one_term k [] a e =
       let f : 0 ≡ 1 = from_eqb 0 1 (first_true (eqb 0 1) (eqb (get_or [] 0 no_term).times 1)
-          (second_true (eqb k 0) _ e)) in
+      (second_true (eqb k 0) _ e)) in
       absurd (omega (arith, f))
   one_term k (u ∷ []) a e =
       let z = from_eqb k 0 (first_true _ _ e) in
@@ -136,7 +134,7 @@ module _ (start : Start) (val : ℕ → ℕ) (table : List Node) (t : IsTable ta
       omega arith
   one_term k (u ∷ v ∷ ts) a e =
       let f : length (u ∷ v ∷ ts) ≡ 1 = from_eqb (length (u ∷ v ∷ ts)) 1
-          (first_true (eqb (length (u ∷ v ∷ ts)) 1) _ (second_true (eqb k 0) _ e)) in
+      (first_true (eqb (length (u ∷ v ∷ ts)) 1) _ (second_true (eqb k 0) _ e)) in
       absurd (omega (arith, f))
 
   none_left : (k : ℕ) (ts : List Term) → k < 2 ^ 64 → eqb (length ts) 0 ≡ true → k ≡ (k + weighted val ts) % 2 ^ 64
@@ -153,9 +151,9 @@ module _ (start : Start) (val : ℕ → ℕ) (table : List Node) (t : IsTable ta
       (λ _. by_if P (IsOne k ts) _ _ (λ q. one_term k ts a q ∙ e)
       (λ _. by_if P (leb (length ts) 16) _ _
       (λ q. let b = sum_lies val table s k ts a (from_leb (length ts) 16 q) in
-          let low = b.low in
-          let high = b.high in
-          finished_stands start val (kinds.Sum k ts) (sum_interval table k ts) v e (omega arith) (omega arith))
+      let low = b.low in
+      let high = b.high in
+      finished_stands start val (kinds.Sum k ts) (sum_interval table k ts) v e (omega arith) (omega arith))
       (λ _. w)))
 
   -- what the rules make of a constant and terms has their sum
@@ -166,11 +164,12 @@ module _ (start : Start) (val : ℕ → ℕ) (table : List Node) (t : IsTable ta
       let wide = sum_value start val false table k ts t i a in
       let fewer = sum_terms_few table ts t a in
       let b = sum_lies val table s (sum_constant false table k ts) (sum_terms false table ts)
-          (sum_terms_are false table ts t a) (omega arith) in
+      (sum_terms_are false table ts t a) (omega arith) in
       let low = b.low in
       let high = b.high in
       sum_stands (sum_constant true table k ts) (sum_terms true table ts) _ ((k + weighted val ts) % 2 ^ 64)
       (sum_constant_word true table k ts) (sum_terms_are true table ts t a)
       (sum_value start val true table k ts t i a)
       (finished_stands start val (kinds.Wide (sum_constant false table k ts) (sum_terms false table ts))
-      (sum_interval table (sum_constant false table k ts) (sum_terms false table ts)) _ wide (omega arith) (omega arith))
+      (sum_interval table (sum_constant false table k ts) (sum_terms false table ts)) _ wide (omega arith)
+      (omega arith))

@@ -1,5 +1,5 @@
 -- What the rules make of sums, carries and borrows refers to numbers of the table alone.
-use Rattle.std.proofs.Common.{◌≡◌, ℕ, ◌+◌, ◌^◌, ◌<◌, ◌≤◌, List, length, get_or, Bool, true, false, ◌&&◌, eqb, leb, ltb}
+use Rattle.std.proofs.Common.{ℕ, ◌^◌, ◌<◌, List, length, get_or, Bool, true, false, ◌&&◌, eqb, leb, ltb}
 use Rattle.std.proofs.Common.{arith}
 use Rattle.std.specs.List.{sum_by}
 use Rattle.intervals.specs.declared.interval.Interval.{Interval}
@@ -16,7 +16,7 @@ use Rattle.terms.specs.Rules.{finished, const_node, is_const, no_term, sum_of, l
 use Rattle.terms.specs.Rules.{passes, by_number, without_zeros, carry_left, carry_of, borrow_left, borrow_of}
 use Rattle.terms.proofs.Cases.{by_if, from_eqb, first_true, second_true}
 use Rattle.terms.proofs.ConstantValues.{own_fits}
-use Rattle.terms.proofs.SumValues.{AreTerms, AreTerms-below, sum_terms_are}
+use Rattle.terms.proofs.SumValues.{AreTerms-below, sum_terms_are}
 use Rattle.terms.proofs.NumberLists.{filter_below, number_below}
 
 module _ (table : List Node) (t : IsTable table) where
@@ -35,7 +35,7 @@ module _ (table : List Node) (t : IsTable table) where
   unfolding lin_of
   lin_fits k ts a =
       let inside = λ (opens : Bool). AreTerms-below (length table) (sum_terms opens table ts)
-          (sum_terms_are opens table ts t a) in
+      (sum_terms_are opens table ts t a) in
       sum_fits (sum_constant true table k ts) (sum_terms true table ts) _ (inside true)
       (own_fits table (kinds.Wide (sum_constant false table k ts) (sum_terms false table ts))
       (sum_interval table (sum_constant false table k ts) (sum_terms false table ts)) (inside false))
@@ -63,9 +63,10 @@ module _ (table : List Node) (t : IsTable table) where
       → BuiltFits table (borrow_left table a ms)
   unfolding borrow_left
   left_borrow_fits a ms h inside =
-      by_if (BuiltFits table) (is_const table a 0 && (eqb (length ms) 1 && leb (node_at table (get_or ms 0 0)).high 1)) _ _
+      by_if (BuiltFits table)
+      (is_const table a 0 && (eqb (length ms) 1 && leb (node_at table (get_or ms 0 0)).high 1)) _ _
       (λ e. let l = from_eqb (length ms) 1 (first_true _ _ (second_true (is_const table a 0) _ e)) in
-          inside 0 0 (omega arith))
+      inside 0 0 (omega arith))
       (λ _. own_fits table (kinds.Borrow a ms) a_bit (h, inside))
 
   ordered_borrow_fits : (a : ℕ) (ms : List ℕ) → a < length table → AreBelow (length table) ms

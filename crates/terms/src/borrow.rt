@@ -1,6 +1,6 @@
 //! The borrow of a difference: whether a node is below a sum of nodes.
 
-ghost use Rattle.std.specs.Prelude.{◌≡◌, ℕ, ◌<◌, ◌≤◌, List, length, IfOk};
+ghost use Rattle.std.specs.Prelude.{◌≡◌, ◌<◌, length, IfOk};
 ghost use Rattle.terms.specs.Rules.{borrow_left, borrow_of, by_number};
 ghost use Rattle.terms.specs.Tables.{AreBelow};
 
@@ -21,12 +21,23 @@ fn left_form<N: Nodes>(nodes: &N, a: u32, left: Vec<u32>) -> Built
     if is_constant(constant(nodes.node(a)), 0) && left.len() == 1 && nodes.node(left[0]).high <= 1 {
         return Built::Is(left[0]);
     }
-    Built::Make(finish(NodeKind::Borrow { a, list: Numbers::from_vec(left) }, between(0, 1)))
+    Built::Make(finish(
+        NodeKind::Borrow {
+            a,
+            list: Numbers::from_vec(left),
+        },
+        between(0, 1),
+    ))
 }
 
 /// The borrow, where the nodes to be taken are in order.
 #[tactic(auto, unfolding(crate::specs::Rules::borrow_of))]
-fn ordered_form<N: Nodes>(alloc: Global, nodes: &N, a: u32, list: &[u32]) -> Result<Built, AllocError>
+fn ordered_form<N: Nodes>(
+    alloc: Global,
+    nodes: &N,
+    a: u32,
+    list: &[u32],
+) -> Result<Built, AllocError>
     requires from { a < length (N.nodes nodes.now) }
     requires inside { AreBelow (length (N.nodes nodes.now)) list.now }
     ensures { IfOk result (λ built. built ≡ borrow_of (N.nodes nodes.now) a list.now) }
@@ -44,7 +55,12 @@ fn ordered_form<N: Nodes>(alloc: Global, nodes: &N, a: u32, list: &[u32]) -> Res
 
 /// What the rules make of the borrow of nodes taken from `a`. The one error is want of memory.
 #[tactic(auto, using(crate::proofs::NumberLists::number_below))]
-pub fn borrow_form<N: Nodes>(alloc: Global, nodes: &N, a: u32, list: &[u32]) -> Result<Built, AllocError>
+pub fn borrow_form<N: Nodes>(
+    alloc: Global,
+    nodes: &N,
+    a: u32,
+    list: &[u32],
+) -> Result<Built, AllocError>
     requires from { a < length (N.nodes nodes.now) }
     requires inside { AreBelow (length (N.nodes nodes.now)) list.now }
     ensures { IfOk result (λ built. built ≡ borrow_of (N.nodes nodes.now) a (by_number list.now)) }

@@ -1,6 +1,6 @@
 //! The carry of a sum of nodes.
 
-ghost use Rattle.std.specs.Prelude.{◌≡◌, ℕ, ◌<◌, ◌≤◌, List, length, IfOk};
+ghost use Rattle.std.specs.Prelude.{◌≡◌, ◌<◌, length, IfOk};
 ghost use Rattle.terms.specs.Rules as rules;
 ghost use Rattle.terms.specs.Rules.{by_number, carry_left, carry_of};
 ghost use Rattle.terms.specs.Tables.{AreBelow};

@@ -1,12 +1,12 @@
 //! The interval of a sum of terms.
 
-ghost use Rattle.std.specs.Prelude.{◌≡◌, ℕ, ◌<◌, ◌≤◌, List, length};
+ghost use Rattle.std.specs.Prelude.{◌≡◌, ◌≤◌, length};
 ghost use Rattle.terms.specs.Rules.{max_terms};
 ghost use Rattle.terms.specs.Sums as spec;
-ghost use Rattle.terms.specs.Tables.{node_at, AreTermsBelow};
+ghost use Rattle.terms.specs.Tables.{AreTermsBelow};
 
 use crate::lists::Term;
-use crate::nodes::{Node, Nodes};
+use crate::nodes::Nodes;
 use intervals::{Interval, full, product, window};
 
 /// From here on a term is too far above or below 0.
@@ -26,7 +26,11 @@ fn up(times: u64) -> u64
 fn down(times: u64) -> u64
     ensures { result ≡ spec.down times }
 {
-    if times < 1 << 63 { 0 } else { u64::MAX - times + 1 }
+    if times < 1 << 63 {
+        0
+    } else {
+        u64::MAX - times + 1
+    }
 }
 
 /// The interval of a constant and at most 16 terms.

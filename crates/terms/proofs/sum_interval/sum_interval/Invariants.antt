@@ -1,3 +1,4 @@
+-- The four sums of the terms so far, none of which is far, and that they fit.
 use Rattle.std.proofs.Common.{◌≡◌, ◌≤◌, ◌*◌, ◌^◌, take, false}
 use Rattle.std.specs.List.{sum_by, list_any}
 use Rattle.terms.specs.Sums.{is_far, up_low, up_high, down_low, down_high}
@@ -13,5 +14,5 @@ invariant-loop-t g l = record {
   least_fits : l.least ≤ l.t-index * 2 ^ 100;
   greatest_fits : l.greatest ≤ l.t-index * 2 ^ 100;
   least_down_fits : l.least_down ≤ l.t-index * 2 ^ 100;
-  greatest_down_fits : l.greatest_down ≤ l.t-index * 2 ^ 100
+  greatest_down_fits : l.greatest_down ≤ l.t-index * 2 ^ 100;
 }
