@@ -1,5 +1,5 @@
 -- Products and shifted words: the rules keep the word of each form, and what they make has it in its interval.
-use Rattle.std.proofs.Common.{◌≡◌, ℕ, ◌+◌, ◌*◌, ◌/◌, ◌%◌, ◌^◌, ◌<◌, ◌≤◌, List, [], ◌∷◌, length}
+use Rattle.std.proofs.Common.{◌≡◌, ℕ, ◌+◌, ◌*◌, ◌/◌, ◌%◌, ◌^◌, ◌<◌, List, [], ◌∷◌, length}
 use Rattle.std.proofs.Common.{Option, Some, None, refl, sym, ap, ◌∙◌, subst, arith}
 use Rattle.std.proofs.lemmas.List.Elements.{All-cons, All-nil}
 use Rattle.std.proofs.lemmas.Nat.{mul-le}
@@ -11,7 +11,7 @@ use Rattle.terms.specs.declared.nodes.Node.{Node}
 use Rattle.terms.specs.declared.nodes.NodeKind.TheVariants as kinds
 use Rattle.terms.specs.Tables.{IsTable, AreTermsBelow}
 use Rattle.terms.specs.Forms.{BuiltFits}
-use Rattle.terms.specs.Meaning.{Start, weighted, IsValuation, IsSound, Stands}
+use Rattle.terms.specs.Meaning.{Start, IsValuation, IsSound, Stands}
 use Rattle.terms.specs.Rules.{low_at, high_at, interval_at, constant_at, own, lin_of, product_by, mul_lo_of}
 use Rattle.terms.specs.Rules.{mul_hi_of}
 use Rattle.terms.proofs.ConstantValues.{const_value, finished_stands, own_fits}

@@ -2,17 +2,14 @@
 use Rattle.std.proofs.Common.{ℕ, ◌^◌, ◌<◌, List, length, get_or, Bool, true, false, ◌&&◌, eqb, leb, ltb}
 use Rattle.std.proofs.Common.{arith}
 use Rattle.std.specs.List.{sum_by}
-use Rattle.intervals.specs.declared.interval.Interval.{Interval}
 use Rattle.terms.specs.declared.lists.Term.{Term}
 use Rattle.terms.specs.declared.nodes.Node.{Node}
-use Rattle.terms.specs.declared.nodes.NodeKind.{NodeKind}
 use Rattle.terms.specs.declared.nodes.NodeKind.TheVariants as kinds
 use Rattle.terms.specs.declared.nodes.Built.{Built}
-use Rattle.terms.specs.declared.nodes.Built.TheVariants.{Make}
-use Rattle.terms.specs.Tables.{node_at, IsTable, RefersBelow, AreBelow, AreTermsBelow}
+use Rattle.terms.specs.Tables.{node_at, IsTable, AreBelow, AreTermsBelow}
 use Rattle.terms.specs.Forms.{BuiltFits}
 use Rattle.terms.specs.Sums.{sum_constant, sum_terms, sum_interval}
-use Rattle.terms.specs.Rules.{finished, const_node, is_const, no_term, sum_of, lin_of, is_left, low_at, high_at, a_bit}
+use Rattle.terms.specs.Rules.{is_const, no_term, sum_of, lin_of, is_left, low_at, high_at, a_bit}
 use Rattle.terms.specs.Rules.{passes, by_number, without_zeros, carry_left, carry_of, borrow_left, borrow_of}
 use Rattle.terms.proofs.Cases.{by_if, from_eqb, first_true, second_true}
 use Rattle.terms.proofs.ConstantValues.{own_fits}

@@ -1,3 +1,5 @@
+//! The rules of tests for 0 and of results by bits.
+
 ghost use Rattle.std.specs.Prelude.{◌≡◌, ◌<◌, length};
 ghost use Rattle.terms.specs.Rules.{and_of, covers, or_of, xor_of, zero_of};
 

@@ -1,3 +1,5 @@
+//! Constants, nodes whose interval is one word, and intervals of nodes.
+
 ghost use Rattle.std.specs.Prelude.{◌≡◌};
 ghost use Rattle.terms.specs.Rules.{const_node, finished, is_value, own};
 ghost use Rattle.terms.specs.Tables.{const_of};

@@ -1,3 +1,5 @@
+//! The rules of products.
+
 ghost use Rattle.std.specs.Prelude.{◌≡◌, ◌<◌, length, IfOk};
 ghost use Rattle.terms.specs.Rules.{mul_hi_of, mul_lo_of};
 

@@ -1,3 +1,5 @@
+//! The rules of every form.
+
 ghost use Rattle.std.specs.Prelude.{◌≡◌, ℕ, ◌<◌, IfOk};
 ghost use Rattle.terms.specs.Forms.{BuiltFits, FormFits};
 ghost use Rattle.terms.specs.Meaning.{Admits, IsSound, IsValuation, Stands, Start, form_value};

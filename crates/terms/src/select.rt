@@ -1,3 +1,5 @@
+//! The rules of selections.
+
 ghost use Rattle.std.specs.Prelude.{◌≡◌, ◌<◌, length};
 ghost use Rattle.terms.specs.Rules.{select_of, tested};
 
