@@ -12,7 +12,7 @@ use Rattle.terms.proofs.Same.{Node-Decides}
 use Rattle.term_store.specs.Interning.{place_of}
 use Rattle.term_store.specs.Indexed.{IsIndex, IsStore, IsTail, Joined, joined_nodes}
 use Rattle.term_store.proofs.Prefixes.{at_front, at_end, at_back, prefix_push}
-use Rattle.term_store.proofs.Places.{no_place, no_place_joined, other_fails, place_in_table}
+use Rattle.term_store.proofs.Places.{no_place, no_place_joined, other_fails, place_in_table, place_later}
 
 last_or : (k n : ℕ) → k < n + 1 → (k < n) ⊎ (k ≡ n)
 last_or k n h = ⊎_elim (λ (p : k < n). inl p) (λ (p : n ≤ k). inr (omega arith)) (cases_lt k n)
@@ -91,6 +91,14 @@ module _ {S : Type 0} (before : ℕ) (list : List Node) (m : HashMap Node ℕ S)
           (o.0, omega arith, at_front list (list ++ node ∷ []) (k - before) (prefix_push list node) (omega arith) ∙ o.2)
 
 -- ---- a table whose second part has an index
+
+pub joined_length : (base own : List Node) (m n : ℕ) → m ≡ length base → n ≡ length own → m + n ≡ length (base ++ own)
+joined_length base own m n p q = let len = length-append base own in omega arith
+
+-- a node of the first part
+pub place_in_base : (base own : List Node) (node : Node) (n : ℕ) → place_of base node ≡ Some n
+    → place_of (base ++ own) node ≡ Some n
+place_in_base base own node n e = place_later base (base ++ own) node n (record { more = own; is = refl }) e
 
 module _ {S : Type 0} (base own : List Node) (m : HashMap Node ℕ S) (table : IsTable (base ++ own))
     (indexed : IsIndex (length base) own m) where

@@ -1,5 +1,5 @@
 -- What is interned, and what is made, by cases.
-use Rattle.std.proofs.Common.{◌≡◌, ℕ, List, [], ◌∷◌, ◌++◌, length, Some, None, refl, sym, ap, ◌∙◌}
+use Rattle.std.proofs.Common.{◌≡◌, ℕ, List, [], ◌∷◌, ◌++◌, length, Some, None, refl, sym, ap, ◌∙◌, append_assoc}
 use Rattle.base.specs.Options.{pick}
 use Rattle.terms.specs.declared.nodes.Node.{Node}
 use Rattle.terms.specs.declared.nodes.Form.{Form}
@@ -23,6 +23,13 @@ interned_new t node e = ap (λ o. pick o (λ n. record { table = t; number = n }
 pub pushed_is_interned : (t : List Node) (node : Node) (n : ℕ) → place_of t node ≡ None → n ≡ length t
     → record { table = t ++ node ∷ []; number = n } ≡ interned t node
 pushed_is_interned t node n e p = (λ i. record { table = t ++ node ∷ []; number = p i }) ∙ sym (interned_new t node e)
+
+pub pushed_is_joined : (base own : List Node) (node : Node) (n : ℕ) → place_of (base ++ own) node ≡ None
+    → n ≡ length (base ++ own)
+    → record { table = base ++ (own ++ node ∷ []); number = n } ≡ interned (base ++ own) node
+pushed_is_joined base own node n e p =
+    (λ i. record { table = sym (append_assoc base own (node ∷ [])) i; number = n })
+    ∙ pushed_is_interned (base ++ own) node n e p
 
 pub made_there : (t : List Node) (form : Form) (n : ℕ) → normal_of t form ≡ Is n
     → made t form ≡ record { table = t; number = n }
