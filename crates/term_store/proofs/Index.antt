@@ -27,7 +27,7 @@ pub table_push : (t : List Node) (node : Node) → IsTable t → RefersBelow (le
     → place_of t node ≡ None → IsTable (t ++ node ∷ [])
 table_push t node table below none =
     let len = length_push t node in
-    let front = λ (k : ℕ) (h : k < length t). at_front t (t ++ node ∷ []) k (prefix_push t node) h in
+    let front = λ (k : ℕ) (h : k < length t). at_front k (prefix_push t node) h in
     record {
       below = λ k h. ⊎_elim
         (λ (p : k < length t). subst (λ (q : Node). RefersBelow k q.kind) (sym (front k p)) (table.below k p))
@@ -62,7 +62,7 @@ module _ {S : Type 0} (before : ℕ) (list : List Node) (m : HashMap Node ℕ S)
       → Updates node_eq.it m n node (Some (before + length list)) → IsIndex before (list ++ node ∷ []) n
   index_push n node i none u =
       let len = length_push list node in
-      let front = λ (k : ℕ) (h : k < length list). at_front list (list ++ node ∷ []) k (prefix_push list node) h in
+      let front = λ (k : ℕ) (h : k < length list). at_front k (prefix_push list node) h in
       record {
         has = λ k h. ⊎_elim
           (λ (p : k < length list). subst (λ (q : Node). get node_eq.it n q ≡ Some (before + k)) (sym (front k p))
@@ -88,7 +88,7 @@ module _ {S : Type 0} (before : ℕ) (list : List Node) (m : HashMap Node ℕ S)
           let o = i.only q k h in
           let low = o.0 in
           let high = o.1 in
-          (o.0, omega arith, at_front list (list ++ node ∷ []) (k - before) (prefix_push list node) (omega arith) ∙ o.2)
+          (o.0, omega arith, at_front (k - before) (prefix_push list node) (omega arith) ∙ o.2)
 
 -- ---- a table whose second part has an index
 

@@ -91,10 +91,10 @@ pub place_later : (t u : List Node) (node : Node) (n : ℕ) → Prefix t u → p
     → place_of u node ≡ Some n
 place_later t u node n p e =
     let o = at_place t node n e in
-    let l = prefix_length t u p in
+    let l = prefix_length p in
     let w = o.within in
-    place_is u node n (omega arith) (at_front t u n p o.within ∙ o.here)
-    (λ j h same. o.before j h (sym (at_front t u j p (omega arith)) ∙ same))
+    place_is u node n (omega arith) (at_front n p o.within ∙ o.here)
+    (λ j h same. o.before j h (sym (at_front j p (omega arith)) ∙ same))
 
 -- a node that neither part has
 pub no_place_joined : (t own : List Node) (node : Node) → place_of t node ≡ None
@@ -102,7 +102,7 @@ pub no_place_joined : (t own : List Node) (node : Node) → place_of t node ≡ 
 no_place_joined t own node e none =
     let len = length-append t own in
     place_none (t ++ own) node (λ k h same. ⊎_elim
-    (λ (l : k < length t). no_place t node e k l (sym (at_front t (t ++ own) k (record { more = own; is = refl }) l) ∙ same))
+    (λ (l : k < length t). no_place t node e k l (sym (at_front {u = t ++ own} k (record { more = own; is = refl }) l) ∙ same))
     (λ (l : length t ≤ k).
       let place : length t + (k - length t) ≡ k = omega arith in
       none (k - length t) (omega arith)
