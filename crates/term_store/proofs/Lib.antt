@@ -5,3 +5,5 @@ pub mod Values
 pub mod Places
 pub mod Index
 pub mod Interned
+pub mod Made
+pub mod Growth
