@@ -1,6 +1,8 @@
 -- An index tells the place of a node, and goes on to tell it when a node is put at the end.
-use Rattle.std.proofs.Common.{◌≡◌, ◌≢◌, ℕ, ◌+◌, ◌-◌, ◌^◌, ◌<◌, ◌≤◌, Bool, true, false, cond, List, [], ◌∷◌, ◌++◌, length}
-use Rattle.std.proofs.Common.{Option, Some, None, refl, sym, ap, ◌∙◌, subst, inl, inr, ⊎_elim, ◌⊎◌, arith, append_assoc}
+use Rattle.std.proofs.Common.{◌≡◌, ◌≢◌, ℕ, ◌+◌, ◌-◌, ◌^◌, ◌<◌, ◌≤◌, Bool, true, false, cond, List, [], ◌∷◌, ◌++◌}
+use Rattle.std.proofs.Common.{length}
+use Rattle.std.proofs.Common.{Option, Some, None, refl, sym, ap, ◌∙◌, subst, inl, inr, ⊎_elim, ◌⊎◌, arith}
+use Rattle.std.proofs.Common.{append_assoc}
 use Rattle.std.specs.Bool.{Decides}
 use Rattle.std.specs.HashMap.{HashMap, get, Updates, IsEmpty, IsUnchanged}
 use Rattle.std.proofs.lemmas.Bool.{cases_lt}
@@ -10,7 +12,7 @@ use Rattle.terms.specs.Tables.{node_at, IsTable, RefersBelow}
 use Rattle.terms.specs.contracts.nodes.NodePartialEq.TheImpl.{eq-value as node_eq}
 use Rattle.terms.proofs.Same.{Node-Decides}
 use Rattle.term_store.specs.Interning.{place_of}
-use Rattle.term_store.specs.Indexed.{IsIndex, IsStore, IsTail, Joined, joined_nodes}
+use Rattle.term_store.specs.Indexed.{IsIndex, IsStore, IsTail}
 use Rattle.term_store.proofs.Prefixes.{at_front, at_end, at_back, prefix_push}
 use Rattle.term_store.proofs.Places.{no_place, no_place_joined, other_fails, place_in_table, place_later}
 
@@ -30,15 +32,15 @@ table_push t node table below none =
     let front = λ (k : ℕ) (h : k < length t). at_front k (prefix_push t node) h in
     record {
       below = λ k h. ⊎_elim
-        (λ (p : k < length t). subst (λ (q : Node). RefersBelow k q.kind) (sym (front k p)) (table.below k p))
-        (λ (p : k ≡ length t). subst (λ (j : ℕ). RefersBelow j (node_at (t ++ node ∷ []) j).kind) (sym p)
+          (λ (p : k < length t). subst (λ (q : Node). RefersBelow k q.kind) (sym (front k p)) (table.below k p))
+          (λ (p : k ≡ length t). subst (λ (j : ℕ). RefersBelow j (node_at (t ++ node ∷ []) j).kind) (sym p)
           (subst (λ (q : Node). RefersBelow (length t) q.kind) (sym (at_end t node)) below))
-        (last_or k (length t) (omega arith));
+          (last_or k (length t) (omega arith));
       distinct = λ i k h p same. ⊎_elim
-        (λ (q : k < length t). table.distinct i k h q (sym (front i (omega arith)) ∙ same ∙ front k q))
-        (λ (q : k ≡ length t). no_place t node none i (omega arith)
+          (λ (q : k < length t). table.distinct i k h q (sym (front i (omega arith)) ∙ same ∙ front k q))
+          (λ (q : k ≡ length t). no_place t node none i (omega arith)
           (sym (front i (omega arith)) ∙ same ∙ ap (node_at (t ++ node ∷ [])) q ∙ at_end t node))
-        (last_or k (length t) (omega arith))
+          (last_or k (length t) (omega arith));
     }
 
 -- ---- indexes
@@ -46,14 +48,14 @@ table_push t node table below none =
 pub index_empty : {S : Type 0} (before : ℕ) (m : HashMap Node ℕ S) → IsEmpty m → IsIndex before [] m
 index_empty before m e = record {
   has = λ k h. absurd (omega arith);
-  only = λ q k h. absurd (let none : None ≡ Some k = rw e at h in cc)
+  only = λ q k h. absurd (let none : None ≡ Some k = rw e at h in cc);
 }
 
 module _ {S : Type 0} (before : ℕ) (list : List Node) (m : HashMap Node ℕ S) where
   pub index_same : (n : HashMap Node ℕ S) → IsIndex before list m → IsUnchanged m n → IsIndex before list n
   index_same n i e = record {
     has = λ k h. rw e (i.has k h);
-    only = λ q k h. i.only q k (rw e at h)
+    only = λ q k h. i.only q k (rw e at h);
   }
 
   -- a node that the list does not have, put at its end
@@ -63,32 +65,36 @@ module _ {S : Type 0} (before : ℕ) (list : List Node) (m : HashMap Node ℕ S)
   index_push n node i none u =
       let len = length_push list node in
       let front = λ (k : ℕ) (h : k < length list). at_front k (prefix_push list node) h in
+      let more = list ++ node ∷ [] in
       record {
         has = λ k h. ⊎_elim
-          (λ (p : k < length list). subst (λ (q : Node). get node_eq.it n q ≡ Some (before + k)) (sym (front k p))
+            (λ (p : k < length list). subst (λ (q : Node). get node_eq.it n q ≡ Some (before + k)) (sym (front k p))
             (u.0 (node_at list k)
             ∙ ap (λ (b : Bool). cond b (Some (before + length list)) (get node_eq.it m (node_at list k)))
             (other_fails node (node_at list k) (λ e. none k p (sym e))) ∙ i.has k p))
-          (λ (p : k ≡ length list). subst (λ (j : ℕ). get node_eq.it n (node_at (list ++ node ∷ []) j) ≡ Some (before + j))
-            (sym p) (subst (λ (q : Node). get node_eq.it n q ≡ Some (before + length list)) (sym (at_end list node)) u.1))
-          (last_or k (length list) (omega arith));
-        only = λ q k h. only_more (node_eq.it node q) q k (Node-Decides node q) (sym (u.0 q) ∙ h)
+            (λ (p : k ≡ length list). subst (λ (j : ℕ). get node_eq.it n (node_at more j) ≡ Some (before + j))
+            (sym p)
+            (subst (λ (q : Node). get node_eq.it n q ≡ Some (before + length list)) (sym (at_end list node)) u.1))
+            (last_or k (length list) (omega arith));
+        only = λ q k h. only_more (node_eq.it node q) q k (Node-Decides node q) (sym (u.0 q) ∙ h);
       } where
-      only_more : (b : Bool) (q : Node) (k : ℕ) → Decides b (node ≡ q)
-          → cond b (Some (before + length list)) (get node_eq.it m q) ≡ Some k
-          → (before ≤ k) × (k < before + length (list ++ node ∷ [])) × (node_at (list ++ node ∷ []) (k - before) ≡ q)
-      only_more true q k d h =
-          let len = length_push list node in
-          let p : before + length list ≡ k = cc in
-          let l : length list ≡ k - before = omega arith in
-          (omega arith, omega arith,
-            subst (λ (j : ℕ). node_at (list ++ node ∷ []) j ≡ q) l (at_end list node ∙ d.0 refl))
-      only_more false q k d h =
-          let len = length_push list node in
-          let o = i.only q k h in
-          let low = o.0 in
-          let high = o.1 in
-          (o.0, omega arith, at_front (k - before) (prefix_push list node) (omega arith) ∙ o.2)
+        only_more : (b : Bool) (q : Node) (k : ℕ) → Decides b (node ≡ q)
+            → cond b (Some (before + length list)) (get node_eq.it m q) ≡ Some k
+            → (before ≤ k) × (k < before + length (list ++ node ∷ [])) × (node_at (list ++ node ∷ []) (k - before) ≡ q)
+        only_more true q k d h =
+            let len = length_push list node in
+            let p : before + length list ≡ k = cc in
+            let l : length list ≡ k - before = omega arith in (
+              omega arith,
+              omega arith,
+              subst (λ (j : ℕ). node_at (list ++ node ∷ []) j ≡ q) l (at_end list node ∙ d.0 refl),
+            )
+        only_more false q k d h =
+            let len = length_push list node in
+            let o = i.only q k h in
+            let low = o.0 in
+            let high = o.1 in
+            (o.0, omega arith, at_front (k - before) (prefix_push list node) (omega arith) ∙ o.2)
 
 -- ---- a table whose second part has an index
 
@@ -125,7 +131,7 @@ module _ {S : Type 0} (base own : List Node) (m : HashMap Node ℕ S)
   tail_same n e = record {
     table = tail.table;
     indexed = index_same (length base) own m n tail.indexed e;
-    short = tail.short
+    short = tail.short;
   }
 
   -- a node that the table does not have, put at its end
@@ -140,9 +146,9 @@ module _ {S : Type 0} (base own : List Node) (m : HashMap Node ℕ S)
       record {
         table = subst IsTable more (table_push (base ++ own) node tail.table below none);
         indexed = index_push (length base) own m n node tail.indexed
-          (λ k h same. no_place (base ++ own) node none (length base + k) (omega arith) (at_back base own k ∙ same))
-          (subst (λ (p : ℕ). Updates node_eq.it m n node (Some p)) len u);
-        short = subst (λ (t : List Node). length t < 2 ^ 32) more (omega arith)
+            (λ k h same. no_place (base ++ own) node none (length base + k) (omega arith) (at_back base own k ∙ same))
+            (subst (λ (p : ℕ). Updates node_eq.it m n node (Some p)) len u);
+        short = subst (λ (t : List Node). length t < 2 ^ 32) more (omega arith);
       }
 
 module _ {S : Type 0} (list : List Node) (m : HashMap Node ℕ S) (store : IsStore list m) where

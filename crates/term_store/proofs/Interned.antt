@@ -1,11 +1,11 @@
 -- What is interned, and what is made, by cases.
-use Rattle.std.proofs.Common.{◌≡◌, ℕ, List, [], ◌∷◌, ◌++◌, length, Some, None, refl, sym, ap, ◌∙◌, append_assoc}
+use Rattle.std.proofs.Common.{◌≡◌, ℕ, List, [], ◌∷◌, ◌++◌, length, Some, None, sym, ap, ◌∙◌, append_assoc}
 use Rattle.base.specs.Options.{pick}
 use Rattle.terms.specs.declared.nodes.Node.{Node}
 use Rattle.terms.specs.declared.nodes.Form.{Form}
 use Rattle.terms.specs.declared.nodes.Built.TheVariants.{Is, Make}
 use Rattle.terms.specs.Rules.{normal_of}
-use Rattle.term_store.specs.Interning.{Interned, place_of, interned, entered, made}
+use Rattle.term_store.specs.Interning.{place_of, interned, entered, made}
 
 pub interned_found : (t : List Node) (node : Node) (n : ℕ) → place_of t node ≡ Some n
     → interned t node ≡ record { table = t; number = n }

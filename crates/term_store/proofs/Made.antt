@@ -1,5 +1,5 @@
 -- What is made of a form: the table after it, its number, and the word for which this number stands.
-use Rattle.std.proofs.Common.{◌≡◌, ◌≢◌, ℕ, ◌+◌, ◌^◌, ◌<◌, ◌≤◌, List, [], ◌∷◌, ◌++◌, length, Option, Some, None, refl, sym, ap}
+use Rattle.std.proofs.Common.{◌≡◌, ℕ, ◌+◌, ◌<◌, ◌≤◌, List, [], ◌∷◌, ◌++◌, length, Option, Some, None, refl, sym, ap}
 use Rattle.std.proofs.Common.{◌∙◌, subst, arith}
 use Rattle.std.proofs.lemmas.List.{length_push}
 use Rattle.terms.specs.declared.nodes.Node.{Node}
@@ -7,12 +7,13 @@ use Rattle.terms.specs.declared.nodes.Form.{Form}
 use Rattle.terms.specs.declared.nodes.Form.TheVariants as forms
 use Rattle.terms.specs.declared.nodes.Built.{Built}
 use Rattle.terms.specs.declared.nodes.Built.TheVariants.{Is, Make}
-use Rattle.terms.specs.Tables.{node_at, Prefix, IsTable, RefersBelow}
+use Rattle.terms.specs.Tables.{node_at, Prefix, IsTable}
 use Rattle.terms.specs.Forms.{FormFits, BuiltFits}
 use Rattle.terms.specs.Meaning.{Start, kind_value, form_value, IsValuation, IsSound, Admits, Stands}
 use Rattle.terms.specs.Rules.{normal_of}
 use Rattle.term_store.specs.Interning.{Interned, place_of, interned, made}
-use Rattle.term_store.proofs.Prefixes.{prefix_refl, prefix_push, prefix_length, at_end, at_front, valuation_front, sound_front}
+use Rattle.term_store.proofs.Prefixes.{prefix_refl, prefix_push, prefix_length, at_end, at_front, valuation_front}
+use Rattle.term_store.proofs.Prefixes.{sound_front}
 use Rattle.term_store.proofs.Places.{IsPlace, at_place, no_place, place_is, place_later}
 use Rattle.term_store.proofs.Index.{table_push}
 use Rattle.term_store.proofs.Interned.{interned_found, interned_new, made_there, made_interned}
@@ -56,7 +57,7 @@ pub made_most : (t : List Node) (form : Form) → length (made t form).table ≤
 made_most t form =
     by_made (λ (r : Interned). length r.table ≤ length t + 1) t form (λ n e. omega arith)
     (λ node e. by_interned (λ (r : Interned). length r.table ≤ length t + 1) t node (λ n p. omega arith)
-      (λ p. let last = length_push t node in omega arith))
+    (λ p. let last = length_push t node in omega arith))
 
 -- ---- the number
 
@@ -67,7 +68,7 @@ interned_place t node =
     (λ e. let last = length_push t node in record {
       within = omega arith;
       here = at_end t node;
-      before = λ j h same. no_place t node e j h (sym (at_front j (prefix_push t node) h) ∙ same)
+      before = λ j h same. no_place t node e j h (sym (at_front j (prefix_push t node) h) ∙ same);
     })
 
 module _ (normal_fits : (table : List Node) (form : Form) → IsTable table → FormFits table form
@@ -76,7 +77,7 @@ module _ (normal_fits : (table : List Node) (form : Form) → IsTable table → 
   made_table t form table fits =
       by_made (λ (r : Interned). IsTable r.table) t form (λ n e. table)
       (λ node e. by_interned (λ (r : Interned). IsTable r.table) t node (λ n p. table)
-        (λ p. table_push t node table (subst (BuiltFits t) e (normal_fits t form table fits)) p))
+      (λ p. table_push t node table (subst (BuiltFits t) e (normal_fits t form table fits)) p))
 
   pub made_below : (t : List Node) (form : Form) → IsTable t → FormFits t form
       → (made t form).number < length (made t form).table
@@ -95,14 +96,14 @@ module _ (normal_stands : (start : Start) (val : ℕ → ℕ) (table : List Node
       → val (made t form).number ≡ form_value start val form
   made_value start val t form table fits admits valued sound =
       let stands = normal_stands start val t form table fits (valuation_front (made_prefix t form) valued)
-          (sound_front (made_prefix t form) sound) admits in
+      (sound_front (made_prefix t form) sound) admits in
       by_made (λ (r : Interned). IsValuation start r.table val → val r.number ≡ form_value start val form) t form
       (λ n e v. subst (Stands start val (form_value start val form)) e stands)
       (λ node e v.
-        let here = interned_place t node in
-        let word = subst (Stands start val (form_value start val form)) e stands in
-        v.meets (interned t node).number here.within
-        ∙ ap (λ (o : Node). kind_value start val o.kind) here.here ∙ word.0) valued
+      let here = interned_place t node in
+      let word = subst (Stands start val (form_value start val form)) e stands in
+      v.meets (interned t node).number here.within
+      ∙ ap (λ (o : Node). kind_value start val o.kind) here.here ∙ word.0) valued
 
 -- ---- bits
 
@@ -144,7 +145,7 @@ made_again {u} t form node e f p =
     let here = interned_place t node in
     made_interned u form node f
     ∙ interned_later node (interned t node).number q
-      (place_is (interned t node).table node (interned t node).number here.within here.here here.before)
+    (place_is (interned t node).table node (interned t node).number here.within here.here here.before)
     ∙ ap (λ (r : Interned). record { table = u; number = r.number }) (sym (made_interned t form node e))
 
 -- a form whose rule reads nothing of the table

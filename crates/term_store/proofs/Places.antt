@@ -1,12 +1,11 @@
 -- The place of a node in a table of distinct nodes, and in a longer one.
-use Rattle.std.proofs.Common.{◌≡◌, ◌≢◌, ℕ, ◌+◌, ◌-◌, ◌<◌, ◌≤◌, Bool, true, false, cond, ltb, not, List, [], ◌∷◌, ◌++◌}
-use Rattle.std.proofs.Common.{length, get_or, Option, Some, None, refl, sym, ap, ◌∙◌, subst, inl, inr, ⊎_elim, arith}
-use Rattle.std.specs.List.{position, position_or_len}
-use Rattle.std.specs.Bool.{Decides}
+use Rattle.std.proofs.Common.{◌≡◌, ◌≢◌, ℕ, ◌+◌, ◌-◌, ◌<◌, ◌≤◌, Bool, true, false, cond, ltb, List, ◌++◌}
+use Rattle.std.proofs.Common.{length, Option, Some, None, refl, sym, ap, ◌∙◌, ⊎_elim, arith}
+use Rattle.std.specs.List.{position_or_len}
 use Rattle.std.proofs.lemmas.Bool.{cases_lt, false≢true, lt-ltb, le-ltb}
 use Rattle.std.proofs.lemmas.List.{length-append}
 use Rattle.std.proofs.lemmas.List.Quantifiers.{position-Some}
-use Rattle.std.proofs.lemmas.List.Sums.{position_or_len_is, fails_before_first, prefix_len-le-length}
+use Rattle.std.proofs.lemmas.List.Sums.{position_or_len_is, fails_before_first}
 use Rattle.terms.specs.declared.nodes.Node.{Node}
 use Rattle.terms.specs.Tables.{node_at, no_node, IsTable, Prefix}
 use Rattle.terms.specs.contracts.nodes.NodePartialEq.TheImpl.{eq-value as node_eq}
@@ -36,18 +35,18 @@ pub place_is : (t : List Node) (node : Node) (k : ℕ) → k < length t → node
     → ((j : ℕ) → j < k → node_at t j ≢ node) → place_of t node ≡ Some k
 place_is t node k h here before =
     let first : position_or_len (λ other. node_eq.it node other) t ≡ k =
-        position_or_len_is (λ (other : Node). node_eq.it node other) t k no_node (omega arith)
-        (λ j l. other_fails node (node_at t j) (λ e. before j l (sym e)))
-        (λ l. same_passes node (node_at t k) (sym here)) in
+    position_or_len_is (λ (other : Node). node_eq.it node other) t k no_node (omega arith)
+    (λ j l. other_fails node (node_at t j) (λ e. before j l (sym e)))
+    (λ l. same_passes node (node_at t k) (sym here)) in
     ap (λ (p : ℕ). cond (ltb p (length t)) (Some p) None) first
     ∙ ap (λ (b : Bool). cond b (Some k) None) (lt-ltb k (length t) h)
 
 pub place_none : (t : List Node) (node : Node) → ((k : ℕ) → k < length t → node_at t k ≢ node) → place_of t node ≡ None
 place_none t node none =
     let first : position_or_len (λ other. node_eq.it node other) t ≡ length t =
-        position_or_len_is (λ (other : Node). node_eq.it node other) t (length t) no_node (omega arith)
-        (λ j l. other_fails node (node_at t j) (λ e. none j l (sym e)))
-        (λ l. absurd (omega arith)) in
+    position_or_len_is (λ (other : Node). node_eq.it node other) t (length t) no_node (omega arith)
+    (λ j l. other_fails node (node_at t j) (λ e. none j l (sym e)))
+    (λ l. absurd (omega arith)) in
     ap (λ (p : ℕ). cond (ltb p (length t)) (Some p) None) first
     ∙ ap (λ (b : Bool). cond b (Some (length t)) None) (le-ltb (length t) (length t) (omega arith))
 
@@ -64,7 +63,7 @@ at_place t node n e =
     record {
       within = p.0;
       here = sym ((Node-Decides node (node_at t n)).0 p.1);
-      before = λ j l e. failing_is_other node (node_at t j) (p.2 j l) (sym e)
+      before = λ j l e. failing_is_other node (node_at t j) (p.2 j l) (sym e);
     }
 
 pub no_place : (t : List Node) (node : Node) → place_of t node ≡ None → (k : ℕ) → k < length t → node_at t k ≢ node
@@ -72,10 +71,10 @@ no_place t node e k h here =
     let test : Node → Bool = λ other. node_eq.it node other in
     ⊎_elim
     (λ (l : position_or_len test t < length t).
-      false≢true (ap (λ (o : Option ℕ). elim o as (λ _. Bool) [ None ↦ false | Some x ↦ true ])
-      (sym e ∙ ap (λ (b : Bool). cond b (Some (position_or_len test t)) None) (lt-ltb _ _ l))))
+    false≢true (ap (λ (o : Option ℕ). elim o as (λ _. Bool) [ None ↦ false | Some x ↦ true ])
+    (sym e ∙ ap (λ (b : Bool). cond b (Some (position_or_len test t)) None) (lt-ltb _ _ l))))
     (λ (l : length t ≤ position_or_len test t).
-      failing_is_other node (node_at t k) (fails_before_first test t k no_node (omega arith)) (sym here))
+    failing_is_other node (node_at t k) (fails_before_first test t k no_node (omega arith)) (sym here))
     (cases_lt (position_or_len test t) (length t))
 
 -- ---- tables
@@ -102,9 +101,10 @@ pub no_place_joined : (t own : List Node) (node : Node) → place_of t node ≡ 
 no_place_joined t own node e none =
     let len = length-append t own in
     place_none (t ++ own) node (λ k h same. ⊎_elim
-    (λ (l : k < length t). no_place t node e k l (sym (at_front {u = t ++ own} k (record { more = own; is = refl }) l) ∙ same))
+    (λ (l : k < length t). no_place t node e k l
+    (sym (at_front {u = t ++ own} k (record { more = own; is = refl }) l) ∙ same))
     (λ (l : length t ≤ k).
-      let place : length t + (k - length t) ≡ k = omega arith in
-      none (k - length t) (omega arith)
-      (sym (at_back t own (k - length t)) ∙ ap (node_at (t ++ own)) place ∙ same))
+    let place : length t + (k - length t) ≡ k = omega arith in
+    none (k - length t) (omega arith)
+    (sym (at_back t own (k - length t)) ∙ ap (node_at (t ++ own)) place ∙ same))
     (cases_lt k (length t)))

@@ -1,7 +1,8 @@
 -- A longer table keeps what stands in its front.
-use Rattle.std.proofs.Common.{◌≡◌, ℕ, ◌+◌, ◌<◌, ◌≤◌, Bool, cond, List, [], ◌∷◌, ◌++◌, length, take, drop, refl, sym, ap, ◌∙◌}
+use Rattle.std.proofs.Common.{◌≡◌, ℕ, ◌+◌, ◌<◌, ◌≤◌, Bool, cond, List, [], ◌∷◌, ◌++◌, length, take, drop, refl, sym}
+use Rattle.std.proofs.Common.{ap, ◌∙◌}
 use Rattle.std.proofs.Common.{subst, append_assoc, append-nil, arith}
-use Rattle.std.specs.List.{All, count_by}
+use Rattle.std.specs.List.{count_by}
 use Rattle.std.proofs.lemmas.List.{length-append, get_or_append_left, get_or_at, get_or-append-add, take-append-drop}
 use Rattle.std.proofs.lemmas.List.Elements.{All-weaker, All-head, All-tail}
 use Rattle.std.proofs.lemmas.List.Sums.{sum_by-cons}
@@ -21,7 +22,7 @@ prefix_refl t = record { more = []; is = sym (append-nil t) }
 pub prefix_trans : {t u w : List Node} → Prefix t u → Prefix u w → Prefix t w
 prefix_trans {t} p q = record {
   more = p.more ++ q.more;
-  is = q.is ∙ ap (λ (us : List Node). us ++ q.more) p.is ∙ append_assoc t p.more q.more
+  is = q.is ∙ ap (λ (us : List Node). us ++ q.more) p.is ∙ append_assoc t p.more q.more;
 }
 
 pub prefix_push : (t : List Node) (node : Node) → Prefix t (t ++ node ∷ [])
@@ -31,7 +32,8 @@ pub prefix_take : (n : ℕ) (t : List Node) → Prefix (take n t) t
 prefix_take n t = record { more = drop n t; is = sym (take-append-drop n t) }
 
 pub prefix_length : {t u : List Node} → Prefix t u → length t ≤ length u
-prefix_length {t} {u} p = let e : length u ≡ length (t ++ p.more) = ap length p.is in omega (arith, length-append t p.more)
+prefix_length {t} {u} p =
+    let e : length u ≡ length (t ++ p.more) = ap length p.is in omega (arith, length-append t p.more)
 
 -- ---- their nodes
 
@@ -53,7 +55,7 @@ table_front {t} {u} p table =
     record {
       below = λ n h. subst (λ (q : Node). RefersBelow n q.kind) (at_front n p h) (table.below n (omega arith));
       distinct = λ m n l h same. table.distinct m n l (omega arith)
-        (at_front m p (omega arith) ∙ same ∙ sym (at_front n p h))
+          (at_front m p (omega arith) ∙ same ∙ sym (at_front n p h));
     }
 
 pub valuation_front : {t u : List Node} {start : Start} {val : ℕ → ℕ} → Prefix t u → IsValuation start u val
@@ -68,7 +70,7 @@ sound_front {t} {u} {val} p s =
     record {
       above = λ n h. subst (λ (q : Node). q.low ≤ val n) (at_front n p h) (s.above n (omega arith));
       below = λ n h. subst (λ (q : Node). val n ≤ q.high) (at_front n p h) (s.below n (omega arith));
-      word = λ n h. s.word n (omega arith)
+      word = λ n h. s.word n (omega arith);
     }
 
 -- ---- a form that fits goes on to fit
@@ -98,7 +100,7 @@ fits_later (forms.In param word low high) p f = f
 fits_later {t} {u} (forms.Lin k terms) p f = (terms_later (length t) (length u) terms (prefix_length p) f.0, f.1)
 fits_later {t} {u} (forms.Carry list) p f =
     let same = count_agrees (is_no_bit u) (is_no_bit t) (length t)
-        (λ m h. ap (λ (q : Node). is_no_bit (q ∷ []) 0) (at_front m p h)) list f.0 in
+    (λ m h. ap (λ (q : Node). is_no_bit (q ∷ []) 0) (at_front m p h)) list f.0 in
     let few = f.3 in
     (below_later (length t) (length u) list (prefix_length p) f.0, f.1, f.2, omega arith)
 fits_later {t} {u} (forms.Borrow a list) p f =

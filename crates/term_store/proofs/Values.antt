@@ -1,7 +1,9 @@
 -- The words of a table's nodes give each number its node's word.
-use Rattle.std.proofs.Common.{◌≡◌, ℕ, zero, suc, ◌+◌, ◌*◌, ◌/◌, ◌%◌, ◌^◌, ◌<◌, ◌≤◌, cond, eqb, ltb, List, [], ◌∷◌, ◌++◌, length}
-use Rattle.std.proofs.Common.{get_or, take, bit_and, bit_or, bit_xor, inl, inr, ⊎_elim, refl, sym, ap, ◌∙◌, subst, arith, add-one}
-use Rattle.std.specs.List.{fold, All}
+use Rattle.std.proofs.Common.{◌≡◌, ℕ, zero, suc, ◌+◌, ◌*◌, ◌/◌, ◌%◌, ◌^◌, ◌<◌, ◌≤◌, cond, eqb, ltb, List, [], ◌∷◌}
+use Rattle.std.proofs.Common.{◌++◌, length}
+use Rattle.std.proofs.Common.{get_or, take, bit_and, bit_or, bit_xor, ⊎_elim, refl, sym, ap, ◌∙◌, subst, arith}
+use Rattle.std.proofs.Common.{add-one}
+use Rattle.std.specs.List.{fold}
 use Rattle.std.proofs.lemmas.Bool.{cases_lt}
 use Rattle.std.proofs.lemmas.List.{length_push, get_or_append_left, get_or_at, take_all, take_more}
 use Rattle.std.proofs.lemmas.List.Elements.{All-head, All-tail}
@@ -11,7 +13,8 @@ use Rattle.terms.specs.declared.nodes.Node.{Node}
 use Rattle.terms.specs.declared.nodes.NodeKind.{NodeKind}
 use Rattle.terms.specs.declared.nodes.NodeKind.TheVariants as kinds
 use Rattle.terms.specs.Tables.{node_at, no_node, AreBelow, AreTermsBelow, IsTable, RefersBelow}
-use Rattle.terms.specs.Meaning.{Start, total, weighted, with_low_byte, kind_value, next_words, words_of, node_value, IsValuation}
+use Rattle.terms.specs.Meaning.{Start, total, weighted, with_low_byte, kind_value, next_words, words_of, node_value}
+use Rattle.terms.specs.Meaning.{IsValuation}
 use Rattle.term_store.proofs.Prefixes.{at_front, at_end, prefix_push, prefix_take, table_front}
 
 -- ---- a kind's word hangs on the words of the numbers to which it refers
@@ -60,7 +63,8 @@ module _ (start : Start) where
   unfolding words_of next_words node_value
   words-push t node = fold_push (next_words start) [] t node
 
-  length-fold_words : (t : List Node) (words : List ℕ) → length (fold (next_words start) words t) ≡ length words + length t
+  length-fold_words : (t : List Node) (words : List ℕ)
+      → length (fold (next_words start) words t) ≡ length words + length t
   unfolding next_words
   length-fold_words [] words = omega arith
   length-fold_words (node ∷ nodes) words =
@@ -97,19 +101,21 @@ module _ (start : Start) where
       let len = length_push t node in
       let before : List Node → ℕ → ℕ = node_value start in
       let agrees = λ (n : ℕ) (h : n ≤ length t) (r : RefersBelow n (node_at more n).kind).
-          kind_value-agrees start (before t) (before more) n (λ m q. sym (value-push t node m (omega arith)))
-          (node_at more n).kind r in
-      record { meets = λ n h. ⊎_elim
-        (λ (p : n < length t).
-          value-push t node n p ∙ v.meets n p
-          ∙ ap (λ (o : Node). kind_value start (before t) o.kind) (sym (at_front n (prefix_push t node) p))
-          ∙ agrees n (omega arith) (table.below n h))
-        (λ (p : length t ≤ n).
-          let q : length t ≡ n = omega arith in
-          subst (λ (j : ℕ). before more j ≡ kind_value start (before more) (node_at more j).kind) q
-          (value-new t node ∙ ap (λ (o : Node). kind_value start (before t) o.kind) (sym (at_end t node))
-          ∙ agrees (length t) (omega arith) (table.below (length t) (omega arith))))
-        (cases_lt n (length t)) }
+      kind_value-agrees start (before t) (before more) n (λ m q. sym (value-push t node m (omega arith)))
+      (node_at more n).kind r in
+      record {
+        meets = λ n h. ⊎_elim
+            (λ (p : n < length t).
+            value-push t node n p ∙ v.meets n p
+            ∙ ap (λ (o : Node). kind_value start (before t) o.kind) (sym (at_front n (prefix_push t node) p))
+            ∙ agrees n (omega arith) (table.below n h))
+            (λ (p : length t ≤ n).
+            let q : length t ≡ n = omega arith in
+            subst (λ (j : ℕ). before more j ≡ kind_value start (before more) (node_at more j).kind) q
+            (value-new t node ∙ ap (λ (o : Node). kind_value start (before t) o.kind) (sym (at_end t node))
+            ∙ agrees (length t) (omega arith) (table.below (length t) (omega arith))))
+            (cases_lt n (length t));
+      }
 
   valuation_take : (t : List Node) → IsTable t → (n : ℕ) → n ≤ length t
       → IsValuation start (take n t) (node_value start (take n t))

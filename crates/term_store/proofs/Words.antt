@@ -1,7 +1,6 @@
 -- Each form stands for a word where the numbers to which it refers do.
-use Rattle.std.proofs.Common.{◌≡◌, ℕ, ◌+◌, ◌*◌, ◌-◌, ◌/◌, ◌%◌, ◌^◌, ◌<◌, ◌≤◌, Bool, true, false, cond, eqb, ltb, List, [], ◌∷◌}
-use Rattle.std.proofs.Common.{length, bit_and, bit_or, bit_xor, arith}
-use Rattle.std.specs.List.{All}
+use Rattle.std.proofs.Common.{ℕ, ◌*◌, ◌-◌, ◌^◌, ◌<◌, ◌≤◌, Bool, true, false, cond, eqb, ltb, List, [], ◌∷◌}
+use Rattle.std.proofs.Common.{length, arith}
 use Rattle.std.proofs.lemmas.Nat.{and_le_l, or_lt, xor_lt, mul-le, shr_le}
 use Rattle.std.proofs.lemmas.List.Elements.{All-head, All-tail}
 use Rattle.terms.specs.declared.nodes.Node.{Node}
@@ -9,7 +8,7 @@ use Rattle.terms.specs.declared.nodes.Form.{Form}
 use Rattle.terms.specs.declared.nodes.Form.TheVariants as forms
 use Rattle.terms.specs.Tables.{AreBelow}
 use Rattle.terms.specs.Forms.{FormFits}
-use Rattle.terms.specs.Meaning.{Start, total, weighted, form_value, with_low_byte, Admits}
+use Rattle.terms.specs.Meaning.{Start, total, form_value, Admits}
 
 cond_below : (b : Bool) (x y m : ℕ) → x < m → y < m → cond b x y < m
 cond_below true x y m h j = h
@@ -29,14 +28,15 @@ module _ (start : Start) (val : ℕ → ℕ) (t : List Node) (word : (n : ℕ) �
   form_word (forms.In param number low high) f a = let most = a.1 in omega arith
   form_word (forms.Lin k terms) f a = omega arith
   form_word (forms.Carry list) f a = let most = total_most list f.0 in let few = f.2 in omega arith
-  form_word (forms.Borrow b list) f a = cond_below (ltb (val b) (total val list)) 1 0 (2 ^ 64) (omega arith) (omega arith)
+  form_word (forms.Borrow b list) f a =
+      cond_below (ltb (val b) (total val list)) 1 0 (2 ^ 64) (omega arith) (omega arith)
   form_word (forms.Zero x) f a = cond_below (eqb (val x) 0) 1 0 (2 ^ 64) (omega arith) (omega arith)
   form_word (forms.MulLo x y) f a = omega arith
   form_word (forms.MulHi x y) f a =
       let p = word x f.0 in
       let q = word y f.1 in
       let most : val x * val y ≤ (2 ^ 64 - 1) * (2 ^ 64 - 1) =
-          mul-le (val x) (val y) (2 ^ 64 - 1) (2 ^ 64 - 1) (omega arith) (omega arith) in
+      mul-le (val x) (val y) (2 ^ 64 - 1) (2 ^ 64 - 1) (omega arith) (omega arith) in
       omega arith
   form_word (forms.And x y) f a = let p = word x f.0 in let most = and_le_l (val x) (val y) in omega arith
   form_word (forms.Or x y) f a = or_lt 64 (val x) (val y) (word x f.0) (word y f.1)

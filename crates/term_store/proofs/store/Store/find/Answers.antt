@@ -1,4 +1,4 @@
-use Rattle.std.proofs.Common.{rules, ◌≡◌, ◌∙◌, sym, ap}
+use Rattle.std.proofs.Common.{◌∙◌}
 use Rattle.term_store.proofs.Index.{store_place}
 use Rattle.term_store.proofs.store.Store.find.Goals as goal
 

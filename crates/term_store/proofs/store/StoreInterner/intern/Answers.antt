@@ -1,4 +1,4 @@
-use Rattle.std.proofs.Common.{rules, ◌≡◌, ◌∙◌, sym, ap, Some, None}
+use Rattle.std.proofs.Common.{◌∙◌, sym}
 use Rattle.term_store.proofs.Interned.{interned_found, pushed_is_interned}
 use Rattle.term_store.proofs.Index.{store_same, store_push}
 use Rattle.term_store.proofs.store.StoreInterner.intern.Goals as goal

@@ -1,4 +1,4 @@
-use Rattle.std.proofs.Common.{rules, ◌≡◌, ◌∙◌, sym, ap}
+use Rattle.std.proofs.Common.{◌∙◌, sym}
 use Rattle.term_store.proofs.Interned.{made_there, made_interned}
 use Rattle.term_store.proofs.store.StoreInterner.make.Goals as goal
 

@@ -1,4 +1,4 @@
-use Rattle.std.proofs.Common.{rules, ◌≡◌, ◌∙◌, sym, ap}
+use Rattle.std.proofs.Common.{◌∙◌, sym}
 use Rattle.term_store.proofs.Index.{place_in_base, place_by_index}
 use Rattle.term_store.proofs.tail.Tail.find.Goals as goal
 

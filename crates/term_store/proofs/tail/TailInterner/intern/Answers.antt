@@ -1,4 +1,4 @@
-use Rattle.std.proofs.Common.{rules, ◌≡◌, ◌∙◌, ◌+◌, sym, ap, Some, None}
+use Rattle.std.proofs.Common.{◌∙◌, sym}
 use Rattle.term_store.specs.Indexed.{joined_nodes}
 use Rattle.term_store.proofs.Interned.{interned_found, pushed_is_joined}
 use Rattle.term_store.proofs.Index.{tail_same, tail_push, joined_length}
@@ -20,7 +20,7 @@ invariant_of-self-in_err-insert c =
 pub invariant_of-self-2 : goal.invariant_of-self-2
 invariant_of-self-2 c =
     let place = joined_length c.self.inside.base.now c.self.inside.list.items c.count.result c.len.result
-        c.count.ensures.count (c.len.ensures ∙ c.self.inside.list.ok.0) in
+    c.count.ensures.count (c.len.ensures ∙ c.self.inside.list.ok.0) in
     rw c.in_ok-push.ensures.items (rw c.try_reserve.ensures.items
     (tail_push c.self.inside.base.now c.self.inside.list.items c.self.inside.index c.self.invariant _ c.args.node
     (rw (← c.self.view_is) at (sym c.in_default.ensures)) (rw (← c.self.view_is) at c.requires.below)
@@ -31,7 +31,7 @@ invariant_of-self-2 c =
 pub returns-clause-ok : goal.returns-clause-ok
 returns-clause-ok c =
     let place = joined_length c.self.inside.base.now c.self.inside.list.items c.count.result c.len.result
-        c.count.ensures.count (c.len.ensures ∙ c.self.inside.list.ok.0) in
+    c.count.ensures.count (c.len.ensures ∙ c.self.inside.list.ok.0) in
     rw (c.in_ok-push.ensures.items, c.try_reserve.ensures.items, ← c.self.view_is)
     (pushed_is_joined c.self.inside.base.now c.self.inside.list.items c.args.node _
     (rw (← c.self.view_is) at (sym c.in_default.ensures)) place)
