@@ -62,7 +62,7 @@ made_most t form =
 -- ---- the number
 
 -- the number of a table whose node is this one, and stands there first
-interned_place : (t : List Node) (node : Node) → IsPlace (interned t node).table node (interned t node).number
+pub interned_place : (t : List Node) (node : Node) → IsPlace (interned t node).table node (interned t node).number
 interned_place t node =
     by_interned (λ (r : Interned). IsPlace r.table node r.number) t node (λ n e. at_place t node n e)
     (λ e. let last = length_push t node in record {
@@ -105,7 +105,7 @@ module _ (normal_stands : (start : Start) (val : ℕ → ℕ) (table : List Node
       v.meets (interned t node).number here.within
       ∙ ap (λ (o : Node). kind_value start val o.kind) here.here ∙ word.0) valued
 
--- ---- bits
+-- ---- how high it is
 
 -- a carry, a borrow, a test, and the constants 0 and 1
 abbrev pub IsBitForm : Form → Type 0
@@ -115,20 +115,26 @@ IsBitForm (forms.Borrow a list) = Unit {0}
 IsBitForm (forms.Zero x) = Unit {0}
 IsBitForm _ = ⊥
 
--- what was made is at most 1
+-- the interval of what was made is not higher
+abbrev pub IsHighBuilt : List Node → ℕ → Built → Type 0
+IsHighBuilt table h (Is n) = (node_at table n).high ≤ h
+IsHighBuilt table h (Make node) = node.high ≤ h
+
 abbrev pub IsBitBuilt : List Node → Built → Type 0
-IsBitBuilt table (Is n) = (node_at table n).high ≤ 1
-IsBitBuilt table (Make node) = node.high ≤ 1
+IsBitBuilt table built = IsHighBuilt table 1 built
+
+pub made_high : (t : List Node) (form : Form) (h : ℕ) → IsHighBuilt t h (normal_of t form)
+    → (node_at (made t form).table (made t form).number).high ≤ h
+made_high t form h built =
+    by_made (λ (r : Interned). (node_at r.table r.number).high ≤ h) t form
+    (λ n e. subst (IsHighBuilt t h) e built)
+    (λ node e. subst (λ (o : Node). o.high ≤ h) (sym (interned_place t node).here) (subst (IsHighBuilt t h) e built))
 
 module _ (bit_built : (table : List Node) (form : Form) → IsTable table → FormFits table form → IsBitForm form
     → IsBitBuilt table (normal_of table form)) where
   pub made_bit : (t : List Node) (form : Form) → IsTable t → FormFits t form → IsBitForm form
       → (node_at (made t form).table (made t form).number).high ≤ 1
-  made_bit t form table fits bit =
-      let built = bit_built t form table fits bit in
-      by_made (λ (r : Interned). (node_at r.table r.number).high ≤ 1) t form
-      (λ n e. subst (IsBitBuilt t) e built)
-      (λ node e. subst (λ (o : Node). o.high ≤ 1) (sym (interned_place t node).here) (subst (IsBitBuilt t) e built))
+  made_bit t form table fits bit = made_high t form 1 (bit_built t form table fits bit)
 
 -- ---- made again, over a longer table
 
