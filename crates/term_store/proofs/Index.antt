@@ -4,7 +4,7 @@ use Rattle.std.proofs.Common.{length}
 use Rattle.std.proofs.Common.{Option, Some, None, refl, sym, ap, ◌∙◌, subst, inl, inr, ⊎_elim, ◌⊎◌, arith}
 use Rattle.std.proofs.Common.{append_assoc}
 use Rattle.std.specs.Bool.{Decides}
-use Rattle.std.specs.HashMap.{HashMap, get, Updates, IsEmpty, IsUnchanged}
+use Rattle.std.specs.HashMap.{HashMap, get, Updates, IsUnchanged}
 use Rattle.std.proofs.lemmas.Bool.{cases_lt}
 use Rattle.std.proofs.lemmas.List.{length-append, length_push}
 use Rattle.terms.specs.declared.nodes.Node.{Node}
@@ -44,12 +44,6 @@ table_push t node table below none =
     }
 
 -- ---- indexes
-
-pub index_empty : {S : Type 0} (before : ℕ) (m : HashMap Node ℕ S) → IsEmpty m → IsIndex before [] m
-index_empty before m e = record {
-  has = λ k h. absurd (omega arith);
-  only = λ q k h. absurd (let none : None ≡ Some k = rw e at h in cc);
-}
 
 module _ {S : Type 0} (before : ℕ) (list : List Node) (m : HashMap Node ℕ S) where
   pub index_same : (n : HashMap Node ℕ S) → IsIndex before list m → IsUnchanged m n → IsIndex before list n
