@@ -1,1 +1,4 @@
 -- The lemmas of this crate, one subject a file.
+pub mod MadeFacts
+pub mod LaterTables
+pub mod Bases
