@@ -2,3 +2,6 @@
 pub mod MadeFacts
 pub mod LaterTables
 pub mod Bases
+pub mod Shapes
+pub mod Places
+pub mod KnownCells
