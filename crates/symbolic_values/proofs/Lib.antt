@@ -5,3 +5,5 @@ pub mod Bases
 pub mod Shapes
 pub mod Places
 pub mod KnownCells
+pub mod Rows
+pub mod Results
