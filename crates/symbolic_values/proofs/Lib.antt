@@ -7,3 +7,6 @@ pub mod Places
 pub mod KnownCells
 pub mod Rows
 pub mod Results
+pub mod Words
+pub mod BinRows
+pub mod PlainRows

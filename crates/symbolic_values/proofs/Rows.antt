@@ -136,6 +136,16 @@ pub record Row (n : ℕ) (t : List Node) (y : Symbols) (next : Run → State →
   pub same : IfSome o.state (SameMemory y)
   pub covers : (r : Run) (s : State) → Valued r o.table → Agreed r y s → IfSome o.state (Goes r (next r s))
 
+-- a row behind what was made before it
+pub row_on : (t u : List Node) (y : Symbols) (next : Run → State → Option State) (o : Step) (m n k : ℕ) → m + n ≤ k
+    → Grows m t u → Row n u y next o → Row k t y next o
+row_on t u y next o m n k h before row = record {
+  grows = grows_on t u o.table m n k h before row.grows;
+  fits = row.fits;
+  same = row.same;
+  covers = row.covers;
+}
+
 -- a stuck step
 pub stuck_row : (n : ℕ) (t : List Node) (y : Symbols) (next : Run → State → Option State) → IsTable t
     → Row n t y next (stuck t)
