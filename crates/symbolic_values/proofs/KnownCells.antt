@@ -22,7 +22,9 @@ all_at P (y ∷ xs) (suc i) x all e = all_at P xs i x all.1 e
 
 -- ---- words
 
-known_in : (o : Option (Option ℕ)) (n : ℕ) {A : Type 0} → ((w : Option ℕ) → o ≡ Some w → w ≡ Some n → A)
+-- a known word
+
+pub known_in : (o : Option (Option ℕ)) (n : ℕ) {A : Type 0} → ((w : Option ℕ) → o ≡ Some w → w ≡ Some n → A)
     → (o >>= λ node. node) ≡ Some n → A
 known_in None n f e = cc
 known_in (Some w) n f e = f w refl e

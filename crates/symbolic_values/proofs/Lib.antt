@@ -10,3 +10,7 @@ pub mod Results
 pub mod Words
 pub mod BinRows
 pub mod PlainRows
+pub mod Named
+pub mod Fetches
+pub mod Wholes
+pub mod Stored
