@@ -14,3 +14,5 @@ pub mod Named
 pub mod Fetches
 pub mod Wholes
 pub mod Stored
+pub mod StoreRow
+pub mod AllSteps
