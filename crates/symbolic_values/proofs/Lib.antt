@@ -16,3 +16,4 @@ pub mod Wholes
 pub mod Stored
 pub mod StoreRow
 pub mod AllSteps
+pub mod Covered

@@ -8,6 +8,7 @@ use Rattle.word_program.specs.Values.{input_word}
 use Rattle.x86_instr.specs.declared.instr.Instr.{Instr}
 use Rattle.x86_instr.specs.declared.line.Line.{Line}
 use Rattle.x86_instr.specs.declared.operand.Reg.{Reg}
+use Rattle.x86_instr.specs.Fits.{FitsInstr}
 use Rattle.x86_instr.specs.Frame.{frame_of}
 use Rattle.x86_meaning.specs.declared.state.State.{State}
 use Rattle.x86_meaning.specs.Correct.{Keeps, written_words}
@@ -76,7 +77,9 @@ pub record Steps (program : Source) (frame : ℕ) (first : State) (val : ℕ →
 -- The symbolic step of the instruction covers the machine's step: in every run of a listing for a program, where the
 -- two states agree and the symbolic step is not stuck. `val` gives the nodes' words in this run.
 abbrev pub Covers : Instr → List Node → Symbols → Type 0
-Covers i table y = IsTable table → FitsTable table y → (program : Source) (lines : List Line) (inputs : List ℕ) (first s : State) (val : ℕ → ℕ)
+Covers i table y =
+    FitsInstr i → IsTable table → FitsTable table y
+    → (program : Source) (lines : List Line) (inputs : List ℕ) (first s : State) (val : ℕ → ℕ)
     → IsStart program lines inputs first → HasShape program (frame_of lines) y
     → (z : Symbols) → (step_of i table y).state ≡ Some z
     → IsValuation (start_of program.params inputs first) (step_of i table y).table val
