@@ -108,7 +108,7 @@ module _ (t : List Node) (y : Symbols) (table : IsTable t) (fits : FitsTable t y
         let a = made t (address_form y mem) in
         let m = makes t (address_form y mem) table (address_fits t y mem fits) tt in record {
           grows = m.grows;
-          inside = read_inside a.table (cell_named a.table y a.number) (prefix_length t a.table m.grows.prefix);
+          inside = read_inside a.table (cell_named a.table y a.number) (prefix_length m.grows.prefix);
           reads = λ r s shape v agrees.
               read_at r s a.table a.number (cell_named a.table y a.number) agrees
               (m.word r v ∙ address_is r y s mem agrees) refl m.grows.table m.inside shape v;

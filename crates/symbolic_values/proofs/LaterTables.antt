@@ -30,12 +30,12 @@ all_so (x ∷ xs) f p = (f x p.0, all_so xs f p.1)
 
 module _ (t u : List Node) (p : Prefix t u) where
   number_later : (n : ℕ) → n < length t → n < length u
-  number_later n h = let more = prefix_length t u p in omega arith
+  number_later n h = let more = prefix_length p in omega arith
 
   pub bit_later : (n : ℕ) → IsBit t n → IsBit u n
   bit_later n bit = record {
     inside = number_later n bit.inside;
-    high = subst (λ (node : Node). node.high ≤ 1) (sym (at_front t u n p bit.inside)) bit.high;
+    high = subst (λ (node : Node). node.high ≤ 1) (sym (at_front n p bit.inside)) bit.high;
   }
 
   known_later : (words : List (Option ℕ)) → AreKnown t words → AreKnown u words

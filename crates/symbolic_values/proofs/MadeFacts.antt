@@ -12,24 +12,24 @@ use Rattle.term_store.specs.Interning.{made}
 pub prefix_refl : (t : List Node) → Prefix t t
 prefix_refl t = ?
 
-pub prefix_trans : (t u w : List Node) → Prefix t u → Prefix u w → Prefix t w
-prefix_trans t u w p q = ?
+pub prefix_trans : {t u w : List Node} → Prefix t u → Prefix u w → Prefix t w
+prefix_trans p q = ?
 
-pub prefix_length : (t u : List Node) → Prefix t u → length t ≤ length u
-prefix_length t u p = ?
+pub prefix_length : {t u : List Node} → Prefix t u → length t ≤ length u
+prefix_length p = ?
 
-pub at_front : (t u : List Node) (n : ℕ) → Prefix t u → n < length t → node_at u n ≡ node_at t n
-at_front t u n p h = ?
+pub at_front : {t u : List Node} (n : ℕ) → Prefix t u → n < length t → node_at u n ≡ node_at t n
+at_front n p h = ?
 
-pub valuation_front : (start : Start) (val : ℕ → ℕ) (t u : List Node) → Prefix t u → IsValuation start u val
+pub valuation_front : {t u : List Node} {start : Start} {val : ℕ → ℕ} → Prefix t u → IsValuation start u val
     → IsValuation start t val
-valuation_front start val t u p is = ?
+valuation_front p v = ?
 
-pub sound_front : (val : ℕ → ℕ) (t u : List Node) → Prefix t u → IsSound u val → IsSound t val
-sound_front val t u p is = ?
+pub sound_front : {t u : List Node} {val : ℕ → ℕ} → Prefix t u → IsSound u val → IsSound t val
+sound_front p s = ?
 
-pub fits_later : (t u : List Node) (f : Form) → Prefix t u → FormFits t f → FormFits u f
-fits_later t u f p fits = ?
+pub fits_later : {t u : List Node} (form : Form) → Prefix t u → FormFits t form → FormFits u form
+fits_later form p f = ?
 
 pub made_prefix : (t : List Node) (f : Form) → Prefix t (made t f).table
 made_prefix t f = ?

@@ -108,7 +108,7 @@ module _ (t : List Node) (y : Symbols) (table : IsTable t) (fits : FitsTable t y
         let nought = made t (forms.Const 0) in
         let u = nought.table in
         let m = makes t (forms.Const 0) table (omega arith) tt in
-        let longer = prefix_length t u m.grows.prefix in
+        let longer = prefix_length m.grows.prefix in
         let below = d_inside in
         let inside : d < length u = omega arith in
         row_on t u y (Next Neg) (arithmetic (Some dst) (sum (minus d ∷ [])) (forms.Borrow nought.number (d ∷ [])) u y) 1 3 4

@@ -154,13 +154,13 @@ module _ (t : List Node) (y : Symbols) (table : IsTable t) (fits : FitsTable t y
         let b = made a.table carry in
         let c = made b.table (forms.Zero a.number) in
         let ma = makes t result table fit plain in
-        let fit_b = fits_later t a.table carry ma.grows.prefix fit_carry in
+        let fit_b = fits_later carry ma.grows.prefix fit_carry in
         let mb = makes a.table carry ma.grows.table fit_b plain_carry in
-        let longer = prefix_length a.table b.table mb.grows.prefix in
+        let longer = prefix_length mb.grows.prefix in
         let inside = ma.inside in
         let fit_c : a.number < length b.table = omega arith in
         let mc = makes b.table (forms.Zero a.number) mb.grows.table fit_c tt in
-        let last = prefix_length b.table c.table mc.grows.prefix in
+        let last = prefix_length mc.grows.prefix in
         let here : a.number < length c.table = omega arith in
         let grows = grows_on t a.table c.table 1 2 3 (omega arith) ma.grows
             (grows_on a.table b.table c.table 1 1 2 (omega arith) mb.grows mc.grows) in

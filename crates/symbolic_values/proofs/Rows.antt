@@ -48,8 +48,8 @@ pub record Valued (r : Run) (t : List Node) : Type 0 where
 
 pub valued_front : (r : Run) (t u : List Node) → Prefix t u → Valued r u → Valued r t
 valued_front r t u p v = record {
-  is = valuation_front (start_in r) r.val t u p v.is;
-  sound = sound_front r.val t u p v.sound;
+  is = valuation_front p v.is;
+  sound = sound_front p v.sound;
 }
 
 -- ---- how tables grow
@@ -82,7 +82,7 @@ grows_not t table = record {
 
 pub grows_on : (t u w : List Node) (m n k : ℕ) → m + n ≤ k → Grows m t u → Grows n u w → Grows k t w
 grows_on t u w m n k h a b = let few = a.most in let more = b.most in record {
-  prefix = prefix_trans t u w a.prefix b.prefix;
+  prefix = prefix_trans a.prefix b.prefix;
   table = b.table;
   most = omega arith;
   grown = λ P plain grown. b.grown P plain (a.grown P plain grown);

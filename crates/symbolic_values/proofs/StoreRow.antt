@@ -134,7 +134,7 @@ module _ (t : List Node) (y : Symbols) (table : IsTable t) (fits : FitsTable t y
       let a = made t (address_form y mem) in
       let m = makes t (address_form y mem) table (address_fits t y mem fits) tt in
       let named = cell_named a.table y a.number in
-      let longer = prefix_length t a.table m.grows.prefix in
+      let longer = prefix_length m.grows.prefix in
       let below = node_inside t y fits src in
       let inside : node_in y src < length a.table = omega arith in
       record {
