@@ -17,3 +17,4 @@ pub mod Stored
 pub mod StoreRow
 pub mod AllSteps
 pub mod Covered
+pub mod AtStart
