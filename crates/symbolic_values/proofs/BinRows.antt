@@ -73,7 +73,7 @@ module _ (dst : Reg) (t : List Node) (y : Symbols) (table : IsTable t) (fits : F
   abbrev Next : Bin → Run → State → Option State
   Next op r st = bin_into op dst (r.val s) st
 
-  add_row : Row 3 t y (Next Add) (bin_step Add dst d s t y)
+  add_row : Row t y (Next Add) (bin_step Add dst d s t y)
   add_row = arithmetic_row t y table fits (Next Add) (sum (plus d ∷ plus s ∷ []))
       (terms_below (length t) (plus d ∷ plus s ∷ []) (d_inside, (inside, tt)), omega arith) tt
       (Some dst) (forms.Carry (d ∷ s ∷ [])) (carry_fits t d s d_inside inside) tt tt
@@ -100,8 +100,8 @@ module _ (dst : Reg) (t : List Node) (y : Symbols) (table : IsTable t) (fits : F
   carry_bit : (c : ℕ) → y.cf ≡ Some c → IsBit t c
   carry_bit c e = subst (λ flag. IfSome flag (IsBit t)) e fits.cf
 
-  adc_row : Row 3 t y (Next Adc) (bin_step Adc dst d s t y)
-  adc_row = flag_row 3 t y (Next Adc) y.cf
+  adc_row : Row t y (Next Adc) (bin_step Adc dst d s t y)
+  adc_row = flag_row t y (Next Adc) y.cf
       (λ c. arithmetic (Some dst) (sum (plus d ∷ plus s ∷ plus c ∷ [])) (forms.Carry (d ∷ s ∷ c ∷ []))) table (λ c k.
       let b = carry_bit c k in
       arithmetic_row t y table fits (Next Adc) (sum (plus d ∷ plus s ∷ plus c ∷ []))
@@ -123,7 +123,7 @@ module _ (dst : Reg) (t : List Node) (y : Symbols) (table : IsTable t) (fits : F
         overflows = λ n j. tt;
       }))
 
-  sub_row : Row 3 t y (Next Sub) (bin_step Sub dst d s t y)
+  sub_row : Row t y (Next Sub) (bin_step Sub dst d s t y)
   sub_row = arithmetic_row t y table fits (Next Sub) (sum (plus d ∷ minus s ∷ []))
       (terms_below (length t) (plus d ∷ minus s ∷ []) (d_inside, (inside, tt)), omega arith) tt
       (Some dst) (forms.Borrow d (s ∷ []))
@@ -138,8 +138,8 @@ module _ (dst : Reg) (t : List Node) (y : Symbols) (table : IsTable t) (fits : F
         overflows = λ n k. tt;
       })
 
-  sbb_row : Row 3 t y (Next Sbb) (bin_step Sbb dst d s t y)
-  sbb_row = flag_row 3 t y (Next Sbb) y.cf
+  sbb_row : Row t y (Next Sbb) (bin_step Sbb dst d s t y)
+  sbb_row = flag_row t y (Next Sbb) y.cf
       (λ c. arithmetic (Some dst) (sum (plus d ∷ minus s ∷ minus c ∷ [])) (forms.Borrow d (s ∷ c ∷ []))) table (λ c k.
       let b = carry_bit c k in
       arithmetic_row t y table fits (Next Sbb) (sum (plus d ∷ minus s ∷ minus c ∷ []))
@@ -162,7 +162,7 @@ module _ (dst : Reg) (t : List Node) (y : Symbols) (table : IsTable t) (fits : F
         overflows = λ n j. tt;
       }))
 
-  and_row : Row 3 t y (Next And) (bin_step And dst d s t y)
+  and_row : Row t y (Next And) (bin_step And dst d s t y)
   and_row = logic_row t y table fits (Next And) (forms.And d s) (d_inside, inside) tt (Some dst)
       (λ r st v a. record {
         word = bit_and (reg st dst) (r.val s);
@@ -174,7 +174,7 @@ module _ (dst : Reg) (t : List Node) (y : Symbols) (table : IsTable t) (fits : F
         overflows = λ n k. (false, refl, k);
       })
 
-  or_row : Row 3 t y (Next Or) (bin_step Or dst d s t y)
+  or_row : Row t y (Next Or) (bin_step Or dst d s t y)
   or_row = logic_row t y table fits (Next Or) (forms.Or d s) (d_inside, inside) tt (Some dst)
       (λ r st v a. record {
         word = bit_or (reg st dst) (r.val s);
@@ -186,7 +186,7 @@ module _ (dst : Reg) (t : List Node) (y : Symbols) (table : IsTable t) (fits : F
         overflows = λ n k. (false, refl, k);
       })
 
-  xor_row : Row 3 t y (Next Xor) (bin_step Xor dst d s t y)
+  xor_row : Row t y (Next Xor) (bin_step Xor dst d s t y)
   xor_row = logic_row t y table fits (Next Xor) (forms.Xor d s) (d_inside, inside) tt (Some dst)
       (λ r st v a. record {
         word = bit_xor (reg st dst) (r.val s);
@@ -198,7 +198,7 @@ module _ (dst : Reg) (t : List Node) (y : Symbols) (table : IsTable t) (fits : F
         overflows = λ n k. (false, refl, k);
       })
 
-  cmp_row : Row 3 t y (Next Cmp) (bin_step Cmp dst d s t y)
+  cmp_row : Row t y (Next Cmp) (bin_step Cmp dst d s t y)
   cmp_row = arithmetic_row t y table fits (Next Cmp) (sum (plus d ∷ minus s ∷ []))
       (terms_below (length t) (plus d ∷ minus s ∷ []) (d_inside, (inside, tt)), omega arith) tt
       None (forms.Borrow d (s ∷ []))
@@ -213,7 +213,7 @@ module _ (dst : Reg) (t : List Node) (y : Symbols) (table : IsTable t) (fits : F
         overflows = λ n k. tt;
       })
 
-  pub bin_row : (op : Bin) → Row 3 t y (Next op) (bin_step op dst d s t y)
+  pub bin_row : (op : Bin) → Row t y (Next op) (bin_step op dst d s t y)
   bin_row Add = add_row
   bin_row Adc = adc_row
   bin_row Sub = sub_row

@@ -12,7 +12,7 @@ use Rattle.x86_instr.specs.declared.operand.Rm.TheVariants as rms
 use Rattle.x86_instr.specs.declared.operand.Src.{Src}
 use Rattle.x86_instr.specs.declared.operand.Src.TheVariants as srcs
 use Rattle.x86_instr.specs.Access.{rm_access, src_access}
-use Rattle.x86_instr.specs.Fits.{FitsSmall, FitsSrc}
+use Rattle.x86_instr.specs.Fits.{FitsMem, FitsSmall, FitsSrc}
 use Rattle.x86_meaning.specs.declared.state.State.{State}
 use Rattle.x86_meaning.specs.Machine.{effective_address, loaded, reg, rm_word, src_word}
 use Rattle.x86_meaning.specs.Touches.{Touched, NoCell, ReadCell, touched_by, written_address}
@@ -31,40 +31,40 @@ use Rattle.symbolic_values.proofs.KnownCells.{node_known}
 use Rattle.symbolic_values.proofs.LaterTables.{node_inside}
 use Rattle.symbolic_values.proofs.Named.{is_named}
 use Rattle.symbolic_values.proofs.PlainRows.{address_fits, address_is}
-use Rattle.symbolic_values.proofs.Rows.{Run, Agreed, Grows, Shaped, Valued, grows_most, grows_not, makes}
+use Rattle.symbolic_values.proofs.Rows.{Run, Agreed, Grows, Shaped, Valued, grows_not, makes}
 
 -- the machine's source has the node's word, and accesses the cell that the state tells
 pub record Reads (r : Run) (word : Option ℕ) (cell : Touched) (w : Word) : Type 0 where
   pub is : word ≡ Some (r.val w.node)
   pub touches : TouchAgrees r.first w.touch cell
 
--- a source, whose word is `word` and which accesses `cell`
-pub record Fetches (t : List Node) (y : Symbols) (word : State → Option ℕ) (cell : State → Touched) (o : Fetched)
-    : Type 1 where
-  pub grows : Grows 1 t o.table
+-- a source, whose word is `word` where it fits its range, and which accesses `cell`
+pub record Fetches (Fits : Type 0) (t : List Node) (y : Symbols) (word : State → Option ℕ) (cell : State → Touched)
+    (o : Fetched) : Type 1 where
+  pub grows : Grows t o.table
   pub inside : IfSome o.word (λ w. w.node < length o.table)
-  pub reads : (r : Run) (s : State) → Shaped r y → Valued r o.table → Agreed r y s
+  pub reads : Fits → (r : Run) (s : State) → Shaped r y → Valued r o.table → Agreed r y s
       → IfSome o.word (Reads r (word s) (cell s))
   pub writes_not : (s : State) → written_address (cell s) ≡ None
 
 module _ (t : List Node) (y : Symbols) (table : IsTable t) (fits : FitsTable t y) where
   -- ---- registers and constants
 
-  reg_fetches : (q : Reg) → Fetches t y (λ s. Some (reg s q)) (λ s. NoCell) (at_hand t (node_in y q))
+  reg_fetches : (q : Reg) → Fetches (Unit {0}) t y (λ s. Some (reg s q)) (λ s. NoCell) (at_hand t (node_in y q))
   reg_fetches q = record {
-    grows = grows_most t t 0 1 (omega arith) (grows_not t table);
+    grows = grows_not t table;
     inside = node_inside t y fits q;
-    reads = λ r s shape v a. record { is = ap Some (a.registers q); touches = refl };
+    reads = λ fit r s shape v a. record { is = ap Some (a.registers q); touches = refl };
     writes_not = λ s. refl;
   }
 
-  pub const_fetches : (n word : ℕ) → n % 2 ^ 64 ≡ word
-      → Fetches t y (λ s. Some word) (λ s. NoCell) (fetched_const t n)
+  pub const_fetches : (Fits : Type 0) (n word : ℕ) → (Fits → n % 2 ^ 64 ≡ word)
+      → Fetches Fits t y (λ s. Some word) (λ s. NoCell) (fetched_const t n)
   unfolding fetched_const
-  const_fetches n word e = let m = makes t (forms.Const (n % 2 ^ 64)) table (omega arith) tt in record {
+  const_fetches Fits n word e = let m = makes t (forms.Const (n % 2 ^ 64)) table (omega arith) tt in record {
     grows = m.grows;
     inside = m.inside;
-    reads = λ r s shape v a. record { is = ap Some (sym (m.word r v ∙ e)); touches = refl };
+    reads = λ fit r s shape v a. record { is = ap Some (sym (m.word r v ∙ e fit)); touches = refl };
     writes_not = λ s. refl;
   }
 
@@ -102,14 +102,14 @@ module _ (t : List Node) (y : Symbols) (table : IsTable t) (fits : FitsTable t y
       inside_at None e = tt
       inside_at (Some n) e = let below = node_known t y cell.area cell.word n fits e in omega arith
 
-    pub cell_fetches : Fetches t y (λ s. loaded s (Address s)) (λ s. ReadCell (Address s)) (fetched_cell t y mem)
+    pub cell_fetches : (Fits : Type 0) → Fetches Fits t y (λ s. loaded s (Address s)) (λ s. ReadCell (Address s)) (fetched_cell t y mem)
     unfolding fetched_cell
-    cell_fetches =
+    cell_fetches Fits =
         let a = made t (address_form y mem) in
         let m = makes t (address_form y mem) table (address_fits t y mem fits) tt in record {
           grows = m.grows;
           inside = read_inside a.table (cell_named a.table y a.number) (prefix_length m.grows.prefix);
-          reads = λ r s shape v agrees.
+          reads = λ fit r s shape v agrees.
               read_at r s a.table a.number (cell_named a.table y a.number) agrees
               (m.word r v ∙ address_is r y s mem agrees) refl m.grows.table m.inside shape v;
           writes_not = λ s. refl;
@@ -118,16 +118,17 @@ module _ (t : List Node) (y : Symbols) (table : IsTable t) (fits : FitsTable t y
   -- ---- sources
 
   pub rm_fetches : (src : Rm)
-      → Fetches t y (λ s. rm_word s src) (λ s. touched_by s (rm_access src)) (rm_fetched t y src)
+      → Fetches (Unit {0}) t y (λ s. rm_word s src) (λ s. touched_by s (rm_access src)) (rm_fetched t y src)
   rm_fetches (rms.Reg r) = reg_fetches r
-  rm_fetches (rms.Mem mem) = cell_fetches mem
+  rm_fetches (rms.Mem mem) = cell_fetches mem (Unit {0})
 
   small_word : (n : ℤ) → FitsSmall n → cast_unsigned w64 n % 2 ^ 64 ≡ cast_unsigned w64 n
   small_word (pos n) h = omega arith
   small_word (negsuc n) h = omega arith
 
-  pub src_fetches : (src : Src) → FitsSrc src
-      → Fetches t y (λ s. src_word s src) (λ s. touched_by s (src_access src)) (src_fetched t y src)
-  src_fetches (srcs.Reg r) fit = reg_fetches r
-  src_fetches (srcs.Mem mem) fit = cell_fetches mem
-  src_fetches (srcs.Imm n) fit = const_fetches (cast_unsigned w64 n) (cast_unsigned w64 n) (small_word n fit)
+  pub src_fetches : (src : Src)
+      → Fetches (FitsSrc src) t y (λ s. src_word s src) (λ s. touched_by s (src_access src)) (src_fetched t y src)
+  src_fetches (srcs.Reg r) = reg_fetches r
+  src_fetches (srcs.Mem mem) = cell_fetches mem (FitsMem mem)
+  src_fetches (srcs.Imm n) =
+      const_fetches (FitsSmall n) (cast_unsigned w64 n) (cast_unsigned w64 n) (small_word n)

@@ -16,5 +16,6 @@ pub mod Wholes
 pub mod Stored
 pub mod StoreRow
 pub mod AllSteps
-pub mod Covered
 pub mod AtStart
+pub mod StepTables
+pub mod Covered

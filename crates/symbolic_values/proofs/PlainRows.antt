@@ -24,8 +24,8 @@ use Rattle.symbolic_values.proofs.MadeFacts.{made_bit, prefix_length}
 use Rattle.symbolic_values.proofs.BinRows.{terms_below, numbers_below}
 use Rattle.symbolic_values.proofs.LaterTables.{fits_flags, fits_table_later, node_inside, bit_later}
 use Rattle.symbolic_values.proofs.Results.{Result, Results, agrees_written, arithmetic_row, logic_row, result_row}
-use Rattle.symbolic_values.proofs.Results.{same_written, written}
-use Rattle.symbolic_values.proofs.Rows.{Run, Agreed, Goes, Row, Valued, grows_not, makes, row_on, start_in, stuck_row}
+use Rattle.symbolic_values.proofs.Results.{written}
+use Rattle.symbolic_values.proofs.Rows.{Run, Agreed, Goes, Row, Valued, makes, row_on, start_in, stuck_row}
 use Rattle.symbolic_values.proofs.Words.{borrowed_nought, complemented, negated}
 
 -- ---- addresses
@@ -59,14 +59,14 @@ address_is r y s mem a =
 
 module _ (t : List Node) (y : Symbols) (table : IsTable t) (fits : FitsTable t y) where
   pub lea_row : (dst : Reg) (mem : Mem)
-      → Row 1 t y (λ r s. Some (with_reg dst (effective_address s mem) s)) (result_only dst (address_form y mem) t y)
+      → Row t y (λ r s. Some (with_reg dst (effective_address s mem) s)) (result_only dst (address_form y mem) t y)
   lea_row dst mem = result_row t y table fits (λ r s. Some (with_reg dst (effective_address s mem) s)) (address_form y mem)
       (address_fits t y mem fits) tt dst
       (λ r s v a. record { word = effective_address s mem; goes = refl; is = address_is r y s mem a })
 
   -- ---- TEST
 
-  pub test_row : (a b : Reg) → Row 3 t y (λ r s. Some (with_logic_flags (bit_and (reg s a) (reg s b)) s))
+  pub test_row : (a b : Reg) → Row t y (λ r s. Some (with_logic_flags (bit_and (reg s a) (reg s b)) s))
       (logic None (forms.And (node_in y a) (node_in y b)) t y)
   test_row a b = logic_row t y table fits (λ r s. Some (with_logic_flags (bit_and (reg s a) (reg s b)) s))
       (forms.And (node_in y a) (node_in y b)) (node_inside t y fits a, node_inside t y fits b) tt None
@@ -93,7 +93,7 @@ module _ (t : List Node) (y : Symbols) (table : IsTable t) (fits : FitsTable t y
     abbrev Next : Un → Run → State → Option State
     Next op r s = Some (un_into op dst (reg s dst) s)
 
-    not_row : Row 1 t y (Next Not) (un_step Not dst d t y)
+    not_row : Row t y (Next Not) (un_step Not dst d t y)
     not_row = result_row t y table fits (Next Not) (forms.Lin (2 ^ 64 - 1) (minus d ∷ []))
         (terms_below (length t) (minus d ∷ []) (d_inside, tt), omega arith) tt dst
         (λ r s v a. let e = a.registers dst in record {
@@ -102,7 +102,7 @@ module _ (t : List Node) (y : Symbols) (table : IsTable t) (fits : FitsTable t y
           is = rw e (complemented (r.val d) (v.sound.word d d_inside));
         })
 
-    neg_row : Row 4 t y (Next Neg) (un_step Neg dst d t y)
+    neg_row : Row t y (Next Neg) (un_step Neg dst d t y)
     unfolding neg_step
     neg_row =
         let nought = made t (forms.Const 0) in
@@ -111,8 +111,8 @@ module _ (t : List Node) (y : Symbols) (table : IsTable t) (fits : FitsTable t y
         let longer = prefix_length m.grows.prefix in
         let below = d_inside in
         let inside : d < length u = omega arith in
-        row_on t u y (Next Neg) (arithmetic (Some dst) (sum (minus d ∷ [])) (forms.Borrow nought.number (d ∷ [])) u y) 1 3 4
-        (omega arith) m.grows
+        row_on t u y (Next Neg) (arithmetic (Some dst) (sum (minus d ∷ [])) (forms.Borrow nought.number (d ∷ [])) u y)
+        m.grows
         (arithmetic_row u y m.grows.table (fits_table_later t u m.grows.prefix y fits) (Next Neg) (sum (minus d ∷ []))
         (terms_below (length u) (minus d ∷ []) (inside, tt), omega arith) tt
         (Some dst) (forms.Borrow nought.number (d ∷ []))
@@ -127,15 +127,15 @@ module _ (t : List Node) (y : Symbols) (table : IsTable t) (fits : FitsTable t y
           overflows = λ n j. tt;
         }))
 
-    pub un_row : (op : Un) → Row 4 t y (Next op) (un_step op dst d t y)
-    un_row Inc = stuck_row 4 t y (Next Inc) table
-    un_row Dec = stuck_row 4 t y (Next Dec) table
+    pub un_row : (op : Un) → Row t y (Next op) (un_step op dst d t y)
+    un_row Inc = stuck_row t y (Next Inc) table
+    un_row Dec = stuck_row t y (Next Dec) table
     un_row Neg = neg_row
-    un_row Not = row_on t t y (Next Not) (un_step Not dst d t y) 0 1 4 (omega arith) (grows_not t table) not_row
+    un_row Not = not_row
 
   -- ---- CLC
 
-  pub clc_row : Row 1 t y (λ r s. Some (record s { cf = Some false })) (clc_step t y)
+  pub clc_row : Row t y (λ r s. Some (record s { cf = Some false })) (clc_step t y)
   unfolding clc_step
   clc_row =
       let c = made t (forms.Const 0) in
@@ -146,7 +146,7 @@ module _ (t : List Node) (y : Symbols) (table : IsTable t) (fits : FitsTable t y
         fits = fits_flags c.table y (Some c.number) y.of y.zf
             (record { inside = m.inside; high = made_bit t (forms.Const 0) table (omega arith) (omega arith) })
             later.of later.zf later;
-        same = same_written y None 0 (Some c.number) y.of y.zf;
+        touch = refl;
         covers = λ r s v a. record {
           next = written None 0 (Some false) s.of s.zf s;
           is = refl;

@@ -21,7 +21,7 @@ use Rattle.symbolic_values.specs.Covering.{FlagAgrees}
 use Rattle.symbolic_values.proofs.MadeFacts.{IsBitForm, fits_later, made_bit, prefix_trans, prefix_length}
 use Rattle.symbolic_values.proofs.LaterTables.{bit_later, fits_table_later, fits_flags, fits_write}
 use Rattle.symbolic_values.proofs.KnownCells.{same_nodes}
-use Rattle.symbolic_values.proofs.Rows.{Run, Agreed, Valued, Goes, IsPlain, Makes, Row, SameMemory, start_in}
+use Rattle.symbolic_values.proofs.Rows.{Run, Agreed, Valued, Goes, IsPlain, Makes, Row, start_in}
 use Rattle.symbolic_values.proofs.Rows.{grows_on, makes, valued_front}
 
 -- ---- states of the machine
@@ -58,6 +58,13 @@ write_agrees val y s None word n r same e h = h
 write_agrees val y s (Some q) word n r same e h = set_agrees val s.regs y.regs (number_of q) (number_of r) word n same e h
 
 -- ---- symbolic states
+
+-- what stands in the memory stays, and so does the access
+pub record SameMemory (y z : Symbols) : Type 0 where
+  pub arrays : z.arrays ≡ y.arrays
+  pub frame : z.frame ≡ y.frame
+  pub overlap : z.overlap ≡ y.overlap
+  pub touch : z.touch ≡ y.touch
 
 pub same_written : (y : Symbols) (dst : Option Reg) (n : ℕ) (cf of zf : Option ℕ)
     → SameMemory y (with_flags cf of zf (write dst n y))
@@ -104,7 +111,7 @@ module _ (t : List Node) (y : Symbols) (table : IsTable t) (fits : FitsTable t y
     (result : Form) (fit : FormFits t result) (plain : IsPlain result) where
   pub result_row : (dst : Reg)
       → ((r : Run) (s : State) → Valued r t → Agreed r y s → Result r dst result s (next r s))
-      → Row 1 t y next (result_only dst result t y)
+      → Row t y next (result_only dst result t y)
   unfolding result_only
   result_row dst goes =
       let a = made t result in
@@ -112,7 +119,7 @@ module _ (t : List Node) (y : Symbols) (table : IsTable t) (fits : FitsTable t y
       record {
         grows = m.grows;
         fits = fits_write a.table y (Some dst) a.number m.inside (fits_table_later t a.table m.grows.prefix y fits);
-        same = same_written y (Some dst) a.number y.cf y.of y.zf;
+        touch = refl;
         covers = λ r s v agrees.
             let g = goes r s (valued_front r t a.table m.grows.prefix v) agrees in
             record {
@@ -148,7 +155,7 @@ module _ (t : List Node) (y : Symbols) (table : IsTable t) (fits : FitsTable t y
       (bits : IsBitForm carry) where
     flagged_row : (over : ℕ → Option ℕ) → ((u : List Node) (n : ℕ) → IsBit u n → IfSome (over n) (IsBit u))
         → ((r : Run) (s : State) → Valued r t → Agreed r y s → Results over r dst carry s (next r s))
-        → Row 3 t y next (flagged over dst carry)
+        → Row t y next (flagged over dst carry)
     flagged_row over bit_over goes =
         let a = made t result in
         let b = made a.table carry in
@@ -162,8 +169,7 @@ module _ (t : List Node) (y : Symbols) (table : IsTable t) (fits : FitsTable t y
         let mc = makes b.table (forms.Zero a.number) mb.grows.table fit_c tt in
         let last = prefix_length mc.grows.prefix in
         let here : a.number < length c.table = omega arith in
-        let grows = grows_on t a.table c.table 1 2 3 (omega arith) ma.grows
-            (grows_on a.table b.table c.table 1 1 2 (omega arith) mb.grows mc.grows) in
+        let grows = grows_on t a.table c.table ma.grows (grows_on a.table b.table c.table mb.grows mc.grows) in
         let bit_b = bit_later b.table c.table mc.grows.prefix b.number
             (record { inside = mb.inside; high = made_bit a.table carry ma.grows.table fit_b bits }) in
         record {
@@ -172,7 +178,7 @@ module _ (t : List Node) (y : Symbols) (table : IsTable t) (fits : FitsTable t y
               (bit_over c.table b.number bit_b)
               (record { inside = mc.inside; high = made_bit b.table (forms.Zero a.number) mb.grows.table fit_c tt })
               (fits_write c.table y dst a.number here (fits_table_later t c.table grows.prefix y fits));
-          same = same_written y dst a.number (Some b.number) (over b.number) (Some c.number);
+          touch = (same_written y dst a.number (Some b.number) (over b.number) (Some c.number)).touch;
           covers = λ r s v agrees.
               let vb = valued_front r b.table c.table mc.grows.prefix v in
               let va = valued_front r a.table b.table mb.grows.prefix vb in
@@ -191,13 +197,13 @@ module _ (t : List Node) (y : Symbols) (table : IsTable t) (fits : FitsTable t y
 
     -- of the overflow flag nothing is known
     pub arithmetic_row : ((r : Run) (s : State) → Valued r t → Agreed r y s
-        → Results (λ n. None) r dst carry s (next r s)) → Row 3 t y next (arithmetic dst result carry t y)
+        → Results (λ n. None) r dst carry s (next r s)) → Row t y next (arithmetic dst result carry t y)
     unfolding arithmetic
     arithmetic_row goes = flagged_row (λ n. None) (λ u n b. tt) goes
 
   -- the overflow flag is the carry
   pub logic_row : (dst : Option Reg)
       → ((r : Run) (s : State) → Valued r t → Agreed r y s
-      → Results (λ n. Some n) r dst (forms.Const 0) s (next r s)) → Row 3 t y next (logic dst result t y)
+      → Results (λ n. Some n) r dst (forms.Const 0) s (next r s)) → Row t y next (logic dst result t y)
   unfolding logic
   logic_row dst goes = flagged_row dst (forms.Const 0) (omega arith) tt (omega arith) (λ n. Some n) (λ u n b. b) goes

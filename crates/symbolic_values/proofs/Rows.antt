@@ -19,7 +19,7 @@ use Rattle.symbolic_values.specs.Steps.{Step, stuck, on_flag}
 use Rattle.symbolic_values.specs.Fitting.{FitsTable, HasShape}
 use Rattle.symbolic_values.specs.Covering.{Agrees, start_of}
 use Rattle.symbolic_values.proofs.MadeFacts.{prefix_refl, prefix_trans, valuation_front, sound_front}
-use Rattle.symbolic_values.proofs.MadeFacts.{made_prefix, made_table, made_below, made_most, made_value, made_grown}
+use Rattle.symbolic_values.proofs.MadeFacts.{made_prefix, made_table, made_below, made_value, made_grown}
 
 -- ---- runs
 
@@ -65,40 +65,25 @@ plain_admits start (forms.Start reg) plain = absurd plain
 plain_admits start (forms.In param word low high) plain = absurd plain
 plain_admits start _ plain = tt
 
--- the longer table goes on from the first one by at most n nodes, and plain forms made them
-pub record Grows (n : ℕ) (t u : List Node) : Type 1 where
+-- the longer table goes on from the first one, by nodes that plain forms made
+pub record Grows (t u : List Node) : Type 1 where
   pub prefix : Prefix t u
   pub table : IsTable u
-  pub most : length u ≤ length t + n
   pub grown : (P : Form → Type 0) → ((f : Form) → IsPlain f → P f) → IsGrown P t → IsGrown P u
 
-pub grows_not : (t : List Node) → IsTable t → Grows 0 t t
-grows_not t table = record {
-  prefix = prefix_refl t;
-  table = table;
-  most = omega arith;
-  grown = λ P plain grown. grown;
-}
+pub grows_not : (t : List Node) → IsTable t → Grows t t
+grows_not t table = record { prefix = prefix_refl t; table = table; grown = λ P plain grown. grown }
 
-pub grows_on : (t u w : List Node) (m n k : ℕ) → m + n ≤ k → Grows m t u → Grows n u w → Grows k t w
-grows_on t u w m n k h a b = let few = a.most in let more = b.most in record {
+pub grows_on : (t u w : List Node) → Grows t u → Grows u w → Grows t w
+grows_on t u w a b = record {
   prefix = prefix_trans a.prefix b.prefix;
   table = b.table;
-  most = omega arith;
   grown = λ P plain grown. b.grown P plain (a.grown P plain grown);
-}
-
-pub grows_most : (t u : List Node) (m n : ℕ) → m ≤ n → Grows m t u → Grows n t u
-grows_most t u m n h a = let few = a.most in record {
-  prefix = a.prefix;
-  table = a.table;
-  most = omega arith;
-  grown = a.grown;
 }
 
 -- what a plain form that fits gives
 pub record Makes (t : List Node) (f : Form) (m : Interned) : Type 1 where
-  pub grows : Grows 1 t m.table
+  pub grows : Grows t m.table
   pub inside : m.number < length m.table
   pub word : (r : Run) → Valued r m.table → r.val m.number ≡ form_value (start_in r) r.val f
 
@@ -107,7 +92,6 @@ makes t f table fits plain = record {
   grows = record {
     prefix = made_prefix t f;
     table = made_table t f table fits;
-    most = made_most t f;
     grown = λ P all grown. made_grown P t f grown fits (all f plain);
   };
   inside = made_below t f table fits;
@@ -116,13 +100,6 @@ makes t f table fits plain = record {
 
 -- ---- rows
 
--- two states with the same memory and access
-pub record SameMemory (y z : Symbols) : Type 0 where
-  pub arrays : z.arrays ≡ y.arrays
-  pub frame : z.frame ≡ y.frame
-  pub overlap : z.overlap ≡ y.overlap
-  pub touch : z.touch ≡ y.touch
-
 -- the machine goes on to a state that agrees
 pub record Goes (r : Run) (o : Option State) (z : Symbols) : Type 0 where
   pub next : State
@@ -130,35 +107,35 @@ pub record Goes (r : Run) (o : Option State) (z : Symbols) : Type 0 where
   pub agrees : Agreed r z next
 
 -- a step that accesses no memory, of a machine that goes on as `next` says
-pub record Row (n : ℕ) (t : List Node) (y : Symbols) (next : Run → State → Option State) (o : Step) : Type 1 where
-  pub grows : Grows n t o.table
+pub record Row (t : List Node) (y : Symbols) (next : Run → State → Option State) (o : Step) : Type 1 where
+  pub grows : Grows t o.table
   pub fits : IfSome o.state (FitsTable o.table)
-  pub same : IfSome o.state (SameMemory y)
+  pub touch : IfSome o.state (λ z. z.touch ≡ y.touch)
   pub covers : (r : Run) (s : State) → Valued r o.table → Agreed r y s → IfSome o.state (Goes r (next r s))
 
 -- a row behind what was made before it
-pub row_on : (t u : List Node) (y : Symbols) (next : Run → State → Option State) (o : Step) (m n k : ℕ) → m + n ≤ k
-    → Grows m t u → Row n u y next o → Row k t y next o
-row_on t u y next o m n k h before row = record {
-  grows = grows_on t u o.table m n k h before row.grows;
+pub row_on : (t u : List Node) (y : Symbols) (next : Run → State → Option State) (o : Step)
+    → Grows t u → Row u y next o → Row t y next o
+row_on t u y next o before row = record {
+  grows = grows_on t u o.table before row.grows;
   fits = row.fits;
-  same = row.same;
+  touch = row.touch;
   covers = row.covers;
 }
 
 -- a stuck step
-pub stuck_row : (n : ℕ) (t : List Node) (y : Symbols) (next : Run → State → Option State) → IsTable t
-    → Row n t y next (stuck t)
-stuck_row n t y next table = record {
-  grows = grows_most t t 0 n (omega arith) (grows_not t table);
+pub stuck_row : (t : List Node) (y : Symbols) (next : Run → State → Option State) → IsTable t
+    → Row t y next (stuck t)
+stuck_row t y next table = record {
+  grows = grows_not t table;
   fits = tt;
-  same = tt;
+  touch = tt;
   covers = λ r s v a. tt;
 }
 
 -- a step on a flag
-pub flag_row : (n : ℕ) (t : List Node) (y : Symbols) (next : Run → State → Option State) (flag : Option ℕ)
+pub flag_row : (t : List Node) (y : Symbols) (next : Run → State → Option State) (flag : Option ℕ)
     (rest : ℕ → List Node → Symbols → Step) → IsTable t
-    → ((node : ℕ) → flag ≡ Some node → Row n t y next (rest node t y)) → Row n t y next (on_flag flag rest t y)
-flag_row n t y next None rest table f = stuck_row n t y next table
-flag_row n t y next (Some node) rest table f = f node refl
+    → ((node : ℕ) → flag ≡ Some node → Row t y next (rest node t y)) → Row t y next (on_flag flag rest t y)
+flag_row t y next None rest table f = stuck_row t y next table
+flag_row t y next (Some node) rest table f = f node refl

@@ -26,7 +26,7 @@ use Rattle.symbolic_values.specs.declared.touch.Touch.{Touch}
 use Rattle.symbolic_values.specs.Symbols.{Symbols, node_in, with_touch}
 use Rattle.symbolic_values.specs.Cells.{Cell, address_form, cell_named, node_of, stored, touch_of}
 use Rattle.symbolic_values.specs.Steps.{store_step}
-use Rattle.symbolic_values.specs.Fitting.{FitsTable, HasShape}
+use Rattle.symbolic_values.specs.Fitting.{FitsTable}
 use Rattle.symbolic_values.specs.Covering.{FlagAgrees, IsWritable}
 use Rattle.symbolic_values.proofs.MadeFacts.{prefix_length}
 use Rattle.symbolic_values.proofs.KnownCells.{node_within, same_nodes}
@@ -34,7 +34,7 @@ use Rattle.symbolic_values.proofs.LaterTables.{fits_table_later, fits_touch, nod
 use Rattle.symbolic_values.proofs.Named.{IsNamed, is_named}
 use Rattle.symbolic_values.proofs.PlainRows.{address_fits, address_is}
 use Rattle.symbolic_values.proofs.Results.{agrees_touch}
-use Rattle.symbolic_values.proofs.Rows.{Run, Agreed, Shaped, Valued, grows_most, makes}
+use Rattle.symbolic_values.proofs.Rows.{Run, Agreed, Shaped, Valued, makes}
 use Rattle.symbolic_values.proofs.Stored.{Kept, Here, Beside, Apart, IsStored, is_stored}
 use Rattle.symbolic_values.proofs.Wholes.{StepsIn, Whole}
 
@@ -120,14 +120,6 @@ module _ (t : List Node) (y : Symbols) (table : IsTable t) (fits : FitsTable t y
   named_so P (Some cell) f = stored_so P cell (stored cell.area cell.word (node_in y src) y)
       (λ z e. f cell z refl (is_stored y cell.area cell.word (node_in y src) z e))
 
-  touched_shape : (program : Source) (frame : ℕ) (z : Symbols) (touch : Option Touch) → HasShape program frame z
-      → HasShape program frame (with_touch touch z)
-  touched_shape program frame z touch shape = record {
-    arrays = shape.arrays;
-    frame_words = shape.frame_words;
-    overlap = shape.overlap;
-  }
-
   pub store_whole : Whole Instruction t y (store_step t y mem (node_in y src))
   unfolding store_step
   store_whole =
@@ -138,13 +130,11 @@ module _ (t : List Node) (y : Symbols) (table : IsTable t) (fits : FitsTable t y
       let below = node_inside t y fits src in
       let inside : node_in y src < length a.table = omega arith in
       record {
-        grows = grows_most t a.table 1 16 (omega arith) m.grows;
+        grows = m.grows;
         fits = named_so (FitsTable a.table) named (λ cell z k is.
             fits_touch a.table z (Some (touch_of true y cell))
             (is.fits a.table (fits_table_later t a.table m.grows.prefix y fits) inside));
-        shape = λ program frame shape. named_so (HasShape program frame) named (λ cell z k is.
-            touched_shape program frame z (Some (touch_of true y cell)) (is.shape program frame shape));
-        covers = λ r s shape v agrees. named_so (StepsIn r Instruction s) named (λ cell z k is.
+        covers = λ fit r s shape v agrees. named_so (StepsIn r Instruction s) named (λ cell z k is.
             store_steps r s cell z shape agrees
             (subst (λ address. IsNamed r y address cell) (m.word r v ∙ address_is r y s mem agrees)
             (is_named r a.table y m.grows.table v shape a.number m.inside cell k)) is);
