@@ -20,13 +20,13 @@ use Rattle.terms.specs.declared.nodes.Node.{Node}
 use Rattle.terms.specs.declared.nodes.Form.TheVariants as forms
 use Rattle.terms.specs.Tables.{IsTable}
 use Rattle.term_store.specs.Interning.{made}
+use Rattle.term_store.proofs.Prefixes.{prefix_length}
 use Rattle.symbolic_values.specs.Symbols.{Symbols, node_in}
 use Rattle.symbolic_values.specs.Cells.{Cell, address_form, cell_named, node_of, touch_of}
 use Rattle.symbolic_values.specs.Steps.{Fetched, Word, at_hand, fetched_cell, fetched_const, read_cell, rm_fetched}
 use Rattle.symbolic_values.specs.Steps.{src_fetched}
 use Rattle.symbolic_values.specs.Fitting.{FitsTable}
 use Rattle.symbolic_values.specs.Covering.{TouchAgrees}
-use Rattle.symbolic_values.proofs.MadeFacts.{prefix_length}
 use Rattle.symbolic_values.proofs.KnownCells.{node_known}
 use Rattle.symbolic_values.proofs.LaterTables.{node_inside}
 use Rattle.symbolic_values.proofs.Named.{is_named}

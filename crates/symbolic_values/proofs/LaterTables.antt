@@ -9,11 +9,11 @@ use Rattle.x86_instr.specs.Registers.{number_of, registers}
 use Rattle.x86_instr.proofs.RegisterList.{at_number}
 use Rattle.terms.specs.declared.nodes.Node.{Node}
 use Rattle.terms.specs.Tables.{node_at, Prefix}
+use Rattle.term_store.proofs.Prefixes.{at_front, prefix_length}
 use Rattle.symbolic_values.specs.declared.touch.Touch.{Touch}
 use Rattle.symbolic_values.specs.Symbols.{Array, Symbols, node_in, with_node, with_flags, with_touch}
 use Rattle.symbolic_values.specs.Steps.{write}
 use Rattle.symbolic_values.specs.Fitting.{IsBit, AreKnown, FitsTable}
-use Rattle.symbolic_values.proofs.MadeFacts.{at_front, prefix_length}
 
 -- ---- longer tables
 

@@ -13,12 +13,14 @@ use Rattle.terms.specs.Tables.{IsTable, Prefix}
 use Rattle.terms.specs.Forms.{FormFits}
 use Rattle.terms.specs.Meaning.{form_value}
 use Rattle.term_store.specs.Interning.{made}
+use Rattle.term_store.proofs.Made.{IsBitForm}
+use Rattle.term_store.proofs.Prefixes.{fits_later, prefix_length, prefix_trans}
 use Rattle.symbolic_values.specs.declared.touch.Touch.{Touch}
 use Rattle.symbolic_values.specs.Symbols.{Symbols, node_in, with_node, with_flags, with_touch}
 use Rattle.symbolic_values.specs.Steps.{Step, goes, write, arithmetic, logic, result_only}
 use Rattle.symbolic_values.specs.Fitting.{IsBit, FitsTable}
 use Rattle.symbolic_values.specs.Covering.{FlagAgrees}
-use Rattle.symbolic_values.proofs.MadeFacts.{IsBitForm, fits_later, made_bit, prefix_trans, prefix_length}
+use Rattle.symbolic_values.proofs.MadeFacts.{made_bit}
 use Rattle.symbolic_values.proofs.LaterTables.{bit_later, fits_table_later, fits_flags, fits_write}
 use Rattle.symbolic_values.proofs.KnownCells.{same_nodes}
 use Rattle.symbolic_values.proofs.Rows.{Run, Agreed, Valued, Goes, IsPlain, Makes, Row, start_in}

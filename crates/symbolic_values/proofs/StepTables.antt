@@ -21,6 +21,8 @@ use Rattle.terms.specs.declared.nodes.Form.{Form}
 use Rattle.terms.specs.declared.nodes.Form.TheVariants as forms
 use Rattle.terms.specs.Tables.{Prefix}
 use Rattle.term_store.specs.Interning.{made}
+use Rattle.term_store.proofs.Made.{made_most, made_prefix}
+use Rattle.term_store.proofs.Prefixes.{prefix_refl, prefix_trans}
 use Rattle.symbolic_values.specs.declared.touch.Touch.{Touch}
 use Rattle.symbolic_values.specs.Symbols.{Symbols, node_in, with_node, with_touch}
 use Rattle.symbolic_values.specs.Cells.{Cell, address_form, cell_named, stored, touch_of}
@@ -28,7 +30,6 @@ use Rattle.symbolic_values.specs.Steps.{Fetched, Step, Word, arithmetic, at_hand
 use Rattle.symbolic_values.specs.Steps.{fetched_const, goes, logic, minus, neg_step, on_flag, on_source, plus, result_only}
 use Rattle.symbolic_values.specs.Steps.{rm_fetched, src_fetched, step_from, step_of, store_step, stuck, sum, un_step}
 use Rattle.symbolic_values.specs.Fitting.{HasShape, HaveShapes}
-use Rattle.symbolic_values.proofs.MadeFacts.{made_most, made_prefix, prefix_refl, prefix_trans}
 use Rattle.symbolic_values.proofs.Results.{SameMemory, same_written}
 use Rattle.symbolic_values.proofs.Stored.{is_stored}
 

@@ -22,13 +22,13 @@ use Rattle.x86_meaning.proofs.Stepping.{stored_there}
 use Rattle.terms.specs.declared.nodes.Node.{Node}
 use Rattle.terms.specs.Tables.{IsTable}
 use Rattle.term_store.specs.Interning.{made}
+use Rattle.term_store.proofs.Prefixes.{prefix_length}
 use Rattle.symbolic_values.specs.declared.touch.Touch.{Touch}
 use Rattle.symbolic_values.specs.Symbols.{Symbols, node_in, with_touch}
 use Rattle.symbolic_values.specs.Cells.{Cell, address_form, cell_named, node_of, stored, touch_of}
 use Rattle.symbolic_values.specs.Steps.{store_step}
 use Rattle.symbolic_values.specs.Fitting.{FitsTable}
 use Rattle.symbolic_values.specs.Covering.{FlagAgrees, IsWritable}
-use Rattle.symbolic_values.proofs.MadeFacts.{prefix_length}
 use Rattle.symbolic_values.proofs.KnownCells.{node_within, same_nodes}
 use Rattle.symbolic_values.proofs.LaterTables.{fits_table_later, fits_touch, node_inside}
 use Rattle.symbolic_values.proofs.Named.{IsNamed, is_named}
