@@ -1,21 +1,21 @@
 -- The step of each instruction: it fits, and covers the machine's step.
-use Rattle.std.proofs.Common.{◌≡◌, ℕ, ◌%◌, ◌^◌, ◌<◌, ◌≤◌, List, length, Option, Some, None, IfSome, bit_and, refl, sym, ap}
-use Rattle.std.proofs.Common.{option_map, option_and_then, subst, arith}
+use Rattle.std.proofs.Common.{◌≡◌, ℕ, ◌%◌, ◌^◌, ◌<◌, List, length, Some, None, bit_and, refl, ap}
+use Rattle.std.proofs.Common.{option_map, option_and_then}
 use Rattle.x86_instr.specs.declared.instr.Instr.{Instr}
 use Rattle.x86_instr.specs.declared.instr.Instr.TheVariants as instrs
 use Rattle.x86_instr.specs.declared.operand.Reg.{Reg}
 use Rattle.x86_instr.specs.Access.{rm_access, src_access}
 use Rattle.x86_instr.specs.Fits.{FitsSrc}
-use Rattle.x86_meaning.specs.declared.state.State.{State}
 use Rattle.x86_meaning.specs.Machine as machine
-use Rattle.x86_meaning.specs.Machine.{bin_into, effective_address, reg, rm_word, src_word, un_into, with_logic_flags, with_reg}
+use Rattle.x86_meaning.specs.Machine.{bin_into, effective_address, reg, rm_word, src_word, un_into, with_logic_flags}
+use Rattle.x86_meaning.specs.Machine.{with_reg}
 use Rattle.x86_meaning.specs.Touches.{NoCell, touched_by}
 use Rattle.terms.specs.declared.nodes.Node.{Node}
 use Rattle.terms.specs.declared.nodes.Form.TheVariants as forms
 use Rattle.terms.specs.Tables.{IsTable}
 use Rattle.symbolic_values.specs.Symbols.{Symbols, node_in, with_node, with_touch}
 use Rattle.symbolic_values.specs.Cells.{address_form}
-use Rattle.symbolic_values.specs.Steps.{Step, bin_step, clc_step, fetched_const, goes, logic, result_only, rm_fetched}
+use Rattle.symbolic_values.specs.Steps.{bin_step, clc_step, fetched_const, goes, logic, result_only, rm_fetched}
 use Rattle.symbolic_values.specs.Steps.{src_fetched, step_from, step_of, un_step}
 use Rattle.symbolic_values.specs.Fitting.{FitsTable}
 use Rattle.symbolic_values.proofs.BinRows.{bin_row}
@@ -23,7 +23,7 @@ use Rattle.symbolic_values.proofs.Fetches.{const_fetches, rm_fetches, src_fetche
 use Rattle.symbolic_values.proofs.LaterTables.{fits_touch, fits_write}
 use Rattle.symbolic_values.proofs.PlainRows.{clc_row, lea_row, test_row, un_row}
 use Rattle.symbolic_values.proofs.Results.{agrees_written, written}
-use Rattle.symbolic_values.proofs.Rows.{Run, Row, grows_not}
+use Rattle.symbolic_values.proofs.Rows.{Row, grows_not}
 use Rattle.symbolic_values.proofs.StoreRow.{store_whole}
 use Rattle.symbolic_values.proofs.Wholes.{Whole, row_whole, source_whole, stuck_whole}
 
@@ -60,7 +60,8 @@ module _ (t : List Node) (y : Symbols) (table : IsTable t) (fits : FitsTable t y
   from_whole (instrs.MovImm dst imm) =
       source_whole (instrs.MovImm dst imm) t y fits (λ s. Some (imm % 2 ^ 64)) (λ s. NoCell)
       (λ n u z. goes u (with_node dst n z)) (λ word s. Some (with_reg dst word s))
-      (λ s w e. ap (option_map (λ word. with_reg dst word s)) e) (λ s. refl) (Unit {0}) (λ fit. tt) (fetched_const t imm)
+      (λ s w e. ap (option_map (λ word. with_reg dst word s)) e) (λ s. refl) (Unit {0}) (λ fit. tt)
+      (fetched_const t imm)
       (const_fetches t y table fits (Unit {0}) imm (imm % 2 ^ 64) (λ fit. refl))
       (λ w inside table_u fits_u. move_row _ (with_touch w.touch y) dst w.node inside table_u fits_u)
   from_whole (instrs.Store mem src) = store_whole t y table fits mem src

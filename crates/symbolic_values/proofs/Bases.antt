@@ -1,6 +1,6 @@
 -- The word of a node that is what a register held at the start, and a constant.
-use Rattle.std.proofs.Common.{◌≡◌, ℕ, ◌+◌, ◌*◌, ◌%◌, ◌^◌, ◌<◌, ◌≤◌, ◌==◌, Bool, true, false, List, [], ◌∷◌, length}
-use Rattle.std.proofs.Common.{Option, Some, None, option_map, if◌then◌else◌, refl, sym, ap, ◌∙◌, subst, arith}
+use Rattle.std.proofs.Common.{◌≡◌, ℕ, ◌+◌, ◌*◌, ◌%◌, ◌^◌, ◌<◌, ◌==◌, Bool, true, false, List, [], ◌∷◌, length}
+use Rattle.std.proofs.Common.{Option, Some, None, option_map, if◌then◌else◌, refl, ap, ◌∙◌, subst, arith}
 use Rattle.std.proofs.lemmas.Bool.Decides.{nat_tests}
 use Rattle.std.proofs.lemmas.List.Elements.{All-head}
 use Rattle.std.proofs.lemmas.Option.{same_Some}
@@ -33,7 +33,8 @@ module _ (start : Start) (val : ℕ → ℕ) (t : List Node) (table : IsTable t)
       → weighted val terms ≡ start.regs reg
   only_word [] reg below e = cc
   only_word (term ∷ []) reg below e =
-      once term.times (val term.node) (start.regs reg) (term.times == 1) (start_reg (node_at t term.node).kind) reg refl e
+      once term.times (val term.node) (start.regs reg) (term.times == 1) (start_reg (node_at t term.node).kind) reg
+      refl e
       (λ k. is.meets term.node (All-head (λ (u : Term). u.node < length t) term [] below)
       ∙ start_word (node_at t term.node).kind reg k)
   only_word (term ∷ next ∷ more) reg below e = cc

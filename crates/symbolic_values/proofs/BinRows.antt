@@ -1,7 +1,7 @@
 -- The rows of ADD, ADC, SUB, SBB, AND, OR, XOR and CMP, from their operands' nodes.
-use Rattle.std.proofs.Common.{◌≡◌, ℕ, zero, suc, ◌+◌, ◌-◌, ◌*◌, ◌%◌, ◌^◌, ◌<◌, ◌≤◌, ◌==◌, Bool, true, false, List, []}
-use Rattle.std.proofs.Common.{◌∷◌, length, nat_le, nat_lt, cond, count_by, Option, Some, None, IfSome, option_map, bit_and}
-use Rattle.std.proofs.Common.{bit_or, bit_xor, if◌then◌else◌, refl, sym, ap, ◌∙◌, subst, arith}
+use Rattle.std.proofs.Common.{◌≡◌, ℕ, ◌+◌, ◌-◌, ◌%◌, ◌^◌, ◌<◌, ◌≤◌, Bool, true, false, List, []}
+use Rattle.std.proofs.Common.{◌∷◌, length, nat_le, nat_lt, cond, Option, Some, None, IfSome, option_map, bit_and}
+use Rattle.std.proofs.Common.{bit_or, bit_xor, refl, sym, ap, subst, arith}
 use Rattle.std.specs.List.{AllByRecursion}
 use Rattle.std.proofs.lemmas.Bool.Decides.{nat_tests}
 use Rattle.std.proofs.lemmas.List.Elements.{All-from_recursion}
@@ -14,15 +14,15 @@ use Rattle.x86_meaning.specs.Machine.{bin_into, biased, bit, difference_into, ov
 use Rattle.terms.specs.declared.lists.Term.{Term}
 use Rattle.terms.specs.declared.nodes.Node.{Node}
 use Rattle.terms.specs.declared.nodes.Form.TheVariants as forms
-use Rattle.terms.specs.Tables.{node_at, AreBelow, AreTermsBelow, IsTable}
+use Rattle.terms.specs.Tables.{AreBelow, AreTermsBelow, IsTable}
 use Rattle.terms.specs.Forms.{FormFits, is_no_bit}
 use Rattle.symbolic_values.specs.Symbols.{Symbols, node_in}
 use Rattle.symbolic_values.specs.Steps.{arithmetic, bin_step, minus, plus, sum}
 use Rattle.symbolic_values.specs.Fitting.{IsBit, FitsTable}
 use Rattle.symbolic_values.specs.Covering.{FlagAgrees}
 use Rattle.symbolic_values.proofs.LaterTables.{node_inside}
-use Rattle.symbolic_values.proofs.Results.{Results, arithmetic_row, logic_row}
-use Rattle.symbolic_values.proofs.Rows.{Run, Agreed, Valued, Row, flag_row}
+use Rattle.symbolic_values.proofs.Results.{arithmetic_row, logic_row}
+use Rattle.symbolic_values.proofs.Rows.{Run, Agreed, Row, flag_row}
 use Rattle.symbolic_values.proofs.Words.{added, added_with, bit_small, borrowed, borrowed_one, borrowed_with, carried}
 use Rattle.symbolic_values.proofs.Words.{carried_two, compared, subtracted, subtracted_with}
 
@@ -104,8 +104,7 @@ module _ (dst : Reg) (t : List Node) (y : Symbols) (table : IsTable t) (fits : F
   adc_row = flag_row t y (Next Adc) y.cf
       (λ c. arithmetic (Some dst) (sum (plus d ∷ plus s ∷ plus c ∷ [])) (forms.Carry (d ∷ s ∷ c ∷ []))) table (λ c k.
       let b = carry_bit c k in
-      arithmetic_row t y table fits (Next Adc) (sum (plus d ∷ plus s ∷ plus c ∷ []))
-      (
+      arithmetic_row t y table fits (Next Adc) (sum (plus d ∷ plus s ∷ plus c ∷ [])) (
         terms_below (length t) (plus d ∷ plus s ∷ plus c ∷ []) (d_inside, (inside, (b.inside, tt))),
         omega arith,
       ) tt
@@ -142,8 +141,7 @@ module _ (dst : Reg) (t : List Node) (y : Symbols) (table : IsTable t) (fits : F
   sbb_row = flag_row t y (Next Sbb) y.cf
       (λ c. arithmetic (Some dst) (sum (plus d ∷ minus s ∷ minus c ∷ [])) (forms.Borrow d (s ∷ c ∷ []))) table (λ c k.
       let b = carry_bit c k in
-      arithmetic_row t y table fits (Next Sbb) (sum (plus d ∷ minus s ∷ minus c ∷ []))
-      (
+      arithmetic_row t y table fits (Next Sbb) (sum (plus d ∷ minus s ∷ minus c ∷ [])) (
         terms_below (length t) (plus d ∷ minus s ∷ minus c ∷ []) (d_inside, (inside, (b.inside, tt))),
         omega arith,
       ) tt

@@ -1,6 +1,6 @@
--- The facts of a step over a table, one by one: what its table is, that its state fits, and that it covers the machine's
--- step.
-use Rattle.std.proofs.Common.{◌≡◌, ℕ, List, Option, Some, None, IfSome, subst}
+-- The facts of a step over a table, one by one: what its table is, that its state fits, and that it covers the
+-- machine's step.
+use Rattle.std.proofs.Common.{◌≡◌, List, Option, Some, None, IfSome, subst}
 use Rattle.x86_instr.specs.declared.instr.Instr.{Instr}
 use Rattle.x86_instr.specs.Frame.{frame_of}
 use Rattle.terms.specs.declared.nodes.Node.{Node}

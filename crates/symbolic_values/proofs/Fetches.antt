@@ -1,5 +1,5 @@
 -- Sources: a register, a constant, or a word of the memory, which the machine reads too.
-use Rattle.std.proofs.Common.{◌≡◌, ℕ, ◌+◌, ◌%◌, ◌^◌, ◌<◌, ◌≤◌, false, List, length, Option, Some, None, IfSome}
+use Rattle.std.proofs.Common.{◌≡◌, ℕ, ◌%◌, ◌^◌, ◌<◌, ◌≤◌, false, List, length, Option, Some, None, IfSome}
 use Rattle.std.proofs.Common.{option_map, refl}
 use Rattle.std.proofs.Common.{sym, ap, ◌∙◌, arith, ℤ, pos, negsuc}
 use Rattle.std.specs.Int.{cast_unsigned, w64}
@@ -102,7 +102,8 @@ module _ (t : List Node) (y : Symbols) (table : IsTable t) (fits : FitsTable t y
       inside_at None e = tt
       inside_at (Some n) e = let below = node_known t y cell.area cell.word n fits e in omega arith
 
-    pub cell_fetches : (Fits : Type 0) → Fetches Fits t y (λ s. loaded s (Address s)) (λ s. ReadCell (Address s)) (fetched_cell t y mem)
+    pub cell_fetches : (Fits : Type 0) → Fetches Fits t y (λ s. loaded s (Address s)) (λ s. ReadCell (Address s))
+        (fetched_cell t y mem)
     unfolding fetched_cell
     cell_fetches Fits =
         let a = made t (address_form y mem) in

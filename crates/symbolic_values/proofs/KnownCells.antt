@@ -1,5 +1,6 @@
 -- The nodes that are known in the memory: they are nodes of the table, and lie in their areas.
-use Rattle.std.proofs.Common.{◌≡◌, ℕ, zero, suc, ◌<◌, List, [], ◌∷◌, length, Option, Some, None, IfSome, slice_get, refl}
+use Rattle.std.proofs.Common.{◌≡◌, ℕ, zero, suc, ◌<◌, List, [], ◌∷◌, length, Option, Some, None, IfSome, slice_get}
+use Rattle.std.proofs.Common.{refl}
 use Rattle.std.proofs.Common.{subst, arith}
 use Rattle.std.specs.List.{AllByRecursion}
 use Rattle.std.proofs.lemmas.Option.{same_Some, slice_get_within}
@@ -65,7 +66,8 @@ pub node_within : (program : Source) (frame : ℕ) (y : Symbols) (area : Area) (
     → node_of y area word ≡ Some n → word < area_words program.params frame area
 node_within program frame y (Array param) word n shape e = array_known y param word n (λ array there is.
     let inside = known_within array.words word n is in
-    let words = words_are program.params param array (param_of program.params y.arrays param array shape.arrays there) in
+    let words =
+    words_are program.params param array (param_of program.params y.arrays param array shape.arrays there) in
     omega (arith, inside, words)) e
 node_within program frame y Frame word n shape e =
     let inside = known_within y.frame word n e in let words = shape.frame_words in omega (arith, inside, words)

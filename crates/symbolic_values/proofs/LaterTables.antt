@@ -1,6 +1,6 @@
 -- A state that fits a table fits every longer one, and other nodes in registers and flags.
-use Rattle.std.proofs.Common.{◌≡◌, ℕ, zero, suc, ◌<◌, ◌≤◌, All, List, [], ◌∷◌, length, Option, Some, None, IfSome}
-use Rattle.std.proofs.Common.{slice_index, slice_set, length-set, sym, ◌∙◌, subst, arith}
+use Rattle.std.proofs.Common.{ℕ, ◌<◌, ◌≤◌, List, [], ◌∷◌, length, Option, Some, None, IfSome}
+use Rattle.std.proofs.Common.{length-set, sym, ◌∙◌, subst, arith}
 use Rattle.std.specs.List.{AllByRecursion}
 use Rattle.std.proofs.lemmas.List.Elements.{All-get_or, All-set, All-weaker}
 use Rattle.std.proofs.lemmas.Option.{slice_get_within}
@@ -8,10 +8,10 @@ use Rattle.x86_instr.specs.declared.operand.Reg.{Reg}
 use Rattle.x86_instr.specs.Registers.{number_of, registers}
 use Rattle.x86_instr.proofs.RegisterList.{at_number}
 use Rattle.terms.specs.declared.nodes.Node.{Node}
-use Rattle.terms.specs.Tables.{node_at, Prefix}
+use Rattle.terms.specs.Tables.{Prefix}
 use Rattle.term_store.proofs.Prefixes.{at_front, prefix_length}
 use Rattle.symbolic_values.specs.declared.touch.Touch.{Touch}
-use Rattle.symbolic_values.specs.Symbols.{Array, Symbols, node_in, with_node, with_flags, with_touch}
+use Rattle.symbolic_values.specs.Symbols.{Symbols, node_in, with_node, with_flags, with_touch}
 use Rattle.symbolic_values.specs.Steps.{write}
 use Rattle.symbolic_values.specs.Fitting.{IsBit, AreKnown, FitsTable}
 

@@ -1,7 +1,8 @@
 -- Where the cell lies that an address names: at the word of an area, with the address that the machine computes.
-use Rattle.std.proofs.Common.{◌≡◌, ℕ, zero, suc, ◌+◌, ◌-◌, ◌*◌, ◌/◌, ◌%◌, ◌^◌, ◌<◌, ◌≤◌, ◌==◌, Bool, true, false}
-use Rattle.std.proofs.Common.{◌&&◌, nat_lt, List, [], ◌∷◌, length, Option, Some, None, option_map, position, cond}
-use Rattle.std.proofs.Common.{slice_get, slice_index_or, if◌then◌else◌, refl, sym, ap, ◌∙◌, subst, arith, pos, negsuc, ◌-ℤ◌}
+use Rattle.std.proofs.Common.{◌≡◌, ℕ, ◌+◌, ◌-◌, ◌*◌, ◌/◌, ◌%◌, ◌^◌, ◌<◌, ◌≤◌, ◌==◌, Bool, true, false}
+use Rattle.std.proofs.Common.{◌&&◌, nat_lt, List, length, Option, Some, None, option_map}
+use Rattle.std.proofs.Common.{slice_get, slice_index_or, if◌then◌else◌, refl, sym, ap, ◌∙◌, subst, arith, pos, negsuc}
+use Rattle.std.proofs.Common.{◌-ℤ◌}
 use Rattle.std.specs.Int.{cast_unsigned, w64}
 use Rattle.std.proofs.lemmas.Bool.Decides.{nat_tests}
 use Rattle.std.proofs.lemmas.Int.{ints}
@@ -62,8 +63,8 @@ below_zero a b h = let e : pos a -ℤ pos b ≡ negsuc (b - a - 1) = omega (arit
 abbrev pub touched_at : State → Touch → ℕ
 touched_at first touch = (reg first touch.reg + cast_unsigned w64 touch.offset) % 2 ^ 64
 
--- In a run from a start, `base` tells the address of the cell, which lies in its area, and an access of the cell tells it
--- too.
+-- In a run from a start, `base` tells the address of the cell, which lies in its area, and an access of the cell tells
+-- it too.
 pub record IsPlace (program : Source) (frame : ℕ) (first : State) (y : Symbols) (base : Base) (cell : Cell) : Type 0
   where
     pub inside : cell.word < area_words program.params frame cell.area

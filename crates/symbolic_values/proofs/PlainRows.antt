@@ -1,18 +1,16 @@
 -- The rows of the instructions that read no source: LEA, TEST, NEG, NOT and CLC; and INC and DEC, which are stuck.
-use Rattle.std.proofs.Common.{◌≡◌, ℕ, zero, suc, ◌+◌, ◌-◌, ◌*◌, ◌%◌, ◌^◌, ◌<◌, ◌≤◌, ◌==◌, Bool, true, false, not, List}
-use Rattle.std.proofs.Common.{[], ◌∷◌, length, Option, Some, None, bit_and, if◌then◌else◌, refl, sym, ap, ◌∙◌, arith}
-use Rattle.std.specs.Int.{cast_unsigned, w64}
+use Rattle.std.proofs.Common.{◌≡◌, ℕ, ◌-◌, ◌%◌, ◌^◌, ◌<◌, ◌≤◌, ◌==◌, false, not, List}
+use Rattle.std.proofs.Common.{[], ◌∷◌, length, Option, Some, None, bit_and, refl, arith}
 use Rattle.x86_instr.specs.declared.operand.Index.{Index}
 use Rattle.x86_instr.specs.declared.operand.Mem.{Mem}
 use Rattle.x86_instr.specs.declared.operand.Reg.{Reg}
 use Rattle.x86_instr.specs.declared.instr.Un.{Un}
 use Rattle.x86_instr.specs.declared.instr.Un.TheVariants.{Inc, Dec, Neg, Not}
 use Rattle.x86_meaning.specs.declared.state.State.{State}
-use Rattle.x86_meaning.specs.Machine.{bit, effective_address, index_word, reg, un_into, with_logic_flags, with_reg}
-use Rattle.terms.specs.declared.lists.Term.{Term}
+use Rattle.x86_meaning.specs.Machine.{effective_address, index_word, reg, un_into, with_logic_flags, with_reg}
 use Rattle.terms.specs.declared.nodes.Node.{Node}
 use Rattle.terms.specs.declared.nodes.Form.TheVariants as forms
-use Rattle.terms.specs.Tables.{node_at, AreTermsBelow, IsTable}
+use Rattle.terms.specs.Tables.{AreTermsBelow, IsTable}
 use Rattle.terms.specs.Forms.{FormFits}
 use Rattle.terms.specs.Meaning.{form_value, weighted}
 use Rattle.term_store.specs.Interning.{made}
@@ -23,10 +21,10 @@ use Rattle.symbolic_values.specs.Steps.{arithmetic, clc_step, logic, minus, neg_
 use Rattle.symbolic_values.specs.Fitting.{FitsTable}
 use Rattle.symbolic_values.proofs.MadeFacts.{made_bit}
 use Rattle.symbolic_values.proofs.BinRows.{terms_below, numbers_below}
-use Rattle.symbolic_values.proofs.LaterTables.{fits_flags, fits_table_later, node_inside, bit_later}
-use Rattle.symbolic_values.proofs.Results.{Result, Results, agrees_written, arithmetic_row, logic_row, result_row}
+use Rattle.symbolic_values.proofs.LaterTables.{fits_flags, fits_table_later, node_inside}
+use Rattle.symbolic_values.proofs.Results.{agrees_written, arithmetic_row, logic_row, result_row}
 use Rattle.symbolic_values.proofs.Results.{written}
-use Rattle.symbolic_values.proofs.Rows.{Run, Agreed, Goes, Row, Valued, makes, row_on, start_in, stuck_row}
+use Rattle.symbolic_values.proofs.Rows.{Run, Agreed, Row, makes, row_on, start_in, stuck_row}
 use Rattle.symbolic_values.proofs.Words.{borrowed_nought, complemented, negated}
 
 -- ---- addresses
@@ -61,7 +59,8 @@ address_is r y s mem a =
 module _ (t : List Node) (y : Symbols) (table : IsTable t) (fits : FitsTable t y) where
   pub lea_row : (dst : Reg) (mem : Mem)
       → Row t y (λ r s. Some (with_reg dst (effective_address s mem) s)) (result_only dst (address_form y mem) t y)
-  lea_row dst mem = result_row t y table fits (λ r s. Some (with_reg dst (effective_address s mem) s)) (address_form y mem)
+  lea_row dst mem = result_row t y table fits (λ r s. Some (with_reg dst (effective_address s mem) s))
+      (address_form y mem)
       (address_fits t y mem fits) tt dst
       (λ r s v a. record { word = effective_address s mem; goes = refl; is = address_is r y s mem a })
 

@@ -1,5 +1,5 @@
 -- Steps that write a register and flags, from the words of the forms that they make.
-use Rattle.std.proofs.Common.{◌≡◌, ℕ, zero, suc, ◌+◌, ◌<◌, ◌≤◌, ◌==◌, Bool, true, false, List, [], ◌∷◌, length, Option}
+use Rattle.std.proofs.Common.{◌≡◌, ℕ, zero, suc, ◌<◌, ◌==◌, Bool, List, [], ◌∷◌, length, Option}
 use Rattle.std.proofs.Common.{Some, None, IfSome, slice_index, slice_set, length-set, if◌then◌else◌, refl, sym, ap, ◌∙◌}
 use Rattle.std.proofs.Common.{arith}
 use Rattle.x86_instr.specs.declared.operand.Reg.{Reg}
@@ -9,21 +9,21 @@ use Rattle.x86_meaning.specs.Machine.{bit}
 use Rattle.terms.specs.declared.nodes.Node.{Node}
 use Rattle.terms.specs.declared.nodes.Form.{Form}
 use Rattle.terms.specs.declared.nodes.Form.TheVariants as forms
-use Rattle.terms.specs.Tables.{IsTable, Prefix}
+use Rattle.terms.specs.Tables.{IsTable}
 use Rattle.terms.specs.Forms.{FormFits}
 use Rattle.terms.specs.Meaning.{form_value}
 use Rattle.term_store.specs.Interning.{made}
 use Rattle.term_store.proofs.Made.{IsBitForm}
-use Rattle.term_store.proofs.Prefixes.{fits_later, prefix_length, prefix_trans}
+use Rattle.term_store.proofs.Prefixes.{fits_later, prefix_length}
 use Rattle.symbolic_values.specs.declared.touch.Touch.{Touch}
-use Rattle.symbolic_values.specs.Symbols.{Symbols, node_in, with_node, with_flags, with_touch}
+use Rattle.symbolic_values.specs.Symbols.{Symbols, node_in, with_flags, with_touch}
 use Rattle.symbolic_values.specs.Steps.{Step, goes, write, arithmetic, logic, result_only}
 use Rattle.symbolic_values.specs.Fitting.{IsBit, FitsTable}
 use Rattle.symbolic_values.specs.Covering.{FlagAgrees}
 use Rattle.symbolic_values.proofs.MadeFacts.{made_bit}
 use Rattle.symbolic_values.proofs.LaterTables.{bit_later, fits_table_later, fits_flags, fits_write}
 use Rattle.symbolic_values.proofs.KnownCells.{same_nodes}
-use Rattle.symbolic_values.proofs.Rows.{Run, Agreed, Valued, Goes, IsPlain, Makes, Row, start_in}
+use Rattle.symbolic_values.proofs.Rows.{Run, Agreed, Valued, IsPlain, Row, start_in}
 use Rattle.symbolic_values.proofs.Rows.{grows_on, makes, valued_front}
 
 -- ---- states of the machine
@@ -57,7 +57,8 @@ write_agrees : (val : ℕ → ℕ) (y : Symbols) (s : State) (dst : Option Reg) 
     → length s.regs ≡ length y.regs → word ≡ val n → slice_index s.regs (number_of r) ≡ val (node_in y r)
     → slice_index (regs_with dst word s.regs) (number_of r) ≡ val (node_in (write dst n y) r)
 write_agrees val y s None word n r same e h = h
-write_agrees val y s (Some q) word n r same e h = set_agrees val s.regs y.regs (number_of q) (number_of r) word n same e h
+write_agrees val y s (Some q) word n r same e h =
+    set_agrees val s.regs y.regs (number_of q) (number_of r) word n same e h
 
 -- ---- symbolic states
 
@@ -173,7 +174,7 @@ module _ (t : List Node) (y : Symbols) (table : IsTable t) (fits : FitsTable t y
         let here : a.number < length c.table = omega arith in
         let grows = grows_on t a.table c.table ma.grows (grows_on a.table b.table c.table mb.grows mc.grows) in
         let bit_b = bit_later b.table c.table mc.grows.prefix b.number
-            (record { inside = mb.inside; high = made_bit a.table carry ma.grows.table fit_b bits }) in
+        (record { inside = mb.inside; high = made_bit a.table carry ma.grows.table fit_b bits }) in
         record {
           grows = grows;
           fits = fits_flags c.table (write dst a.number y) (Some b.number) (over b.number) (Some c.number) bit_b

@@ -1,16 +1,15 @@
 -- The arrays of a symbolic state are those of the program's parameters.
-use Rattle.std.proofs.Common.{◌≡◌, ℕ, zero, suc, ◌/◌, ◌<◌, Bool, true, false, List, [], ◌∷◌, length, Option, Some, None}
-use Rattle.std.proofs.Common.{not, slice_get, if◌then◌else◌, refl, sym, ap, ◌∙◌, subst, arith}
+use Rattle.std.proofs.Common.{◌≡◌, ℕ, zero, suc, true, false, List, [], ◌∷◌, length, Some}
+use Rattle.std.proofs.Common.{not, slice_get, if◌then◌else◌, refl, sym, ap, ◌∙◌, subst}
 use Rattle.std.specs.Option.{option_map_or}
 use Rattle.std.proofs.lemmas.Option.{same_Some}
 use Rattle.word_program.specs.declared.parameter.Param.{Param}
 use Rattle.word_program.specs.declared.parameter.Role.{Role}
 use Rattle.word_program.specs.declared.parameter.Role.TheVariants.{Output, InputArray, InputScalar}
-use Rattle.word_program.specs.Program.{Source}
 use Rattle.word_program.specs.Values.{is_output, is_scalar}
 use Rattle.x86_meaning.specs.Start.{array_words, output_words, is_output_array}
-use Rattle.symbolic_values.specs.Symbols.{Array, Symbols}
-use Rattle.symbolic_values.specs.Fitting.{HaveShapes, HasShape}
+use Rattle.symbolic_values.specs.Symbols.{Array}
+use Rattle.symbolic_values.specs.Fitting.{HaveShapes}
 
 -- the parameter of an array
 pub record ParamOf (params : List Param) (number : ℕ) (array : Array) : Type 0 where
@@ -24,12 +23,13 @@ pub param_of : (params : List Param) (arrays : List Array) (number : ℕ) (array
 param_of [] [] number array shapes e = cc
 param_of [] (a ∷ arrays) number array shapes e = absurd shapes
 param_of (p ∷ params) [] number array shapes e = absurd shapes
-param_of (p ∷ params) (a ∷ arrays) zero array shapes e = subst (ParamOf (p ∷ params) zero) (same_Some a array e) (record {
-  param = p;
-  there = refl;
-  role = shapes.0;
-  words = shapes.1;
-})
+param_of (p ∷ params) (a ∷ arrays) zero array shapes e =
+    subst (ParamOf (p ∷ params) zero) (same_Some a array e) (record {
+      param = p;
+      there = refl;
+      role = shapes.0;
+      words = shapes.1;
+    })
 param_of (p ∷ params) (a ∷ arrays) (suc number) array shapes e =
     let rest = param_of params arrays number array shapes.2 e in
     record { param = rest.param; there = rest.there; role = rest.role; words = rest.words }

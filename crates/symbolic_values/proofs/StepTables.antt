@@ -1,5 +1,5 @@
 -- How the table of a step grows, and the shape of its state: in every table and from every state.
-use Rattle.std.proofs.Common.{◌≡◌, ℕ, ◌+◌, ◌-◌, ◌%◌, ◌^◌, ◌<◌, ◌≤◌, true, List, [], ◌∷◌, length, Option, Some, None, IfSome}
+use Rattle.std.proofs.Common.{◌≡◌, ℕ, ◌+◌, ◌-◌, ◌%◌, ◌^◌, ◌≤◌, true, List, [], ◌∷◌, length, Option, Some, None, IfSome}
 use Rattle.std.proofs.Common.{option_map, refl, sym, ap, ◌∙◌, subst, arith}
 use Rattle.std.specs.Int.{cast_unsigned, w64}
 use Rattle.base.specs.Options.{◌>>=◌}
@@ -26,8 +26,9 @@ use Rattle.term_store.proofs.Prefixes.{prefix_refl, prefix_trans}
 use Rattle.symbolic_values.specs.declared.touch.Touch.{Touch}
 use Rattle.symbolic_values.specs.Symbols.{Symbols, node_in, with_node, with_touch}
 use Rattle.symbolic_values.specs.Cells.{Cell, address_form, cell_named, stored, touch_of}
-use Rattle.symbolic_values.specs.Steps.{Fetched, Step, Word, arithmetic, at_hand, bin_step, clc_step, fetched_cell}
-use Rattle.symbolic_values.specs.Steps.{fetched_const, goes, logic, minus, neg_step, on_flag, on_source, plus, result_only}
+use Rattle.symbolic_values.specs.Steps.{Fetched, Step, Word, arithmetic, bin_step, clc_step, fetched_cell}
+use Rattle.symbolic_values.specs.Steps.{fetched_const, goes, logic, minus, neg_step, on_flag, on_source, plus}
+use Rattle.symbolic_values.specs.Steps.{result_only}
 use Rattle.symbolic_values.specs.Steps.{rm_fetched, src_fetched, step_from, step_of, store_step, stuck, sum, un_step}
 use Rattle.symbolic_values.specs.Fitting.{HasShape, HaveShapes}
 use Rattle.symbolic_values.proofs.Results.{SameMemory, same_written}

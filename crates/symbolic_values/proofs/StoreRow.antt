@@ -1,10 +1,9 @@
 -- MOV to memory: the machine writes the cell that the address names, and no other one.
-use Rattle.std.proofs.Common.{◌≡◌, ◌≢◌, ℕ, ◌+◌, ◌<◌, ◌≤◌, true, List, length, Option, Some, None, IfSome, IsTrue}
+use Rattle.std.proofs.Common.{◌≡◌, ℕ, ◌<◌, true, List, length, Option, Some, None, IfSome}
 use Rattle.std.proofs.Common.{option_map, slice_index, refl, sym, ap, ◌∙◌, subst, arith}
 use Rattle.std.specs.FinMap as map
 use Rattle.std.proofs.lemmas.Option.{same_Some}
 use Rattle.base.specs.Options.{◌>>=◌}
-use Rattle.word_program.specs.Program.{Source}
 use Rattle.x86_instr.specs.declared.instr.Instr.{Instr}
 use Rattle.x86_instr.specs.declared.instr.Instr.TheVariants as instrs
 use Rattle.x86_instr.specs.declared.operand.Mem.{Mem}
@@ -14,7 +13,7 @@ use Rattle.x86_instr.specs.Registers.{number_of}
 use Rattle.x86_meaning.specs.declared.state.State.{State}
 use Rattle.x86_meaning.specs.Machine as machine
 use Rattle.x86_meaning.specs.Machine.{effective_address, reg}
-use Rattle.x86_meaning.specs.Start.{Area, address_of, area_words, is_apart}
+use Rattle.x86_meaning.specs.Start.{Area, address_of, area_words}
 use Rattle.x86_meaning.specs.Correct.{written_words}
 use Rattle.x86_meaning.proofs.Keeping.{keeps_put, put_same_area, written_there}
 use Rattle.x86_meaning.proofs.Memory.{get_put_other, get_put_same}
@@ -23,18 +22,17 @@ use Rattle.terms.specs.declared.nodes.Node.{Node}
 use Rattle.terms.specs.Tables.{IsTable}
 use Rattle.term_store.specs.Interning.{made}
 use Rattle.term_store.proofs.Prefixes.{prefix_length}
-use Rattle.symbolic_values.specs.declared.touch.Touch.{Touch}
 use Rattle.symbolic_values.specs.Symbols.{Symbols, node_in, with_touch}
-use Rattle.symbolic_values.specs.Cells.{Cell, address_form, cell_named, node_of, stored, touch_of}
+use Rattle.symbolic_values.specs.Cells.{Cell, address_form, cell_named, stored, touch_of}
 use Rattle.symbolic_values.specs.Steps.{store_step}
 use Rattle.symbolic_values.specs.Fitting.{FitsTable}
-use Rattle.symbolic_values.specs.Covering.{FlagAgrees, IsWritable}
-use Rattle.symbolic_values.proofs.KnownCells.{node_within, same_nodes}
+use Rattle.symbolic_values.specs.Covering.{FlagAgrees}
+use Rattle.symbolic_values.proofs.KnownCells.{node_within}
 use Rattle.symbolic_values.proofs.LaterTables.{fits_table_later, fits_touch, node_inside}
 use Rattle.symbolic_values.proofs.Named.{IsNamed, is_named}
 use Rattle.symbolic_values.proofs.PlainRows.{address_fits, address_is}
 use Rattle.symbolic_values.proofs.Results.{agrees_touch}
-use Rattle.symbolic_values.proofs.Rows.{Run, Agreed, Shaped, Valued, makes}
+use Rattle.symbolic_values.proofs.Rows.{Run, Agreed, Shaped, makes}
 use Rattle.symbolic_values.proofs.Stored.{Kept, Here, Beside, Apart, IsStored, is_stored}
 use Rattle.symbolic_values.proofs.Wholes.{StepsIn, Whole}
 
@@ -90,12 +88,14 @@ module _ (t : List Node) (y : Symbols) (table : IsTable t) (fits : FitsTable t y
   store_steps r s cell z shape a named is =
       let writable = is.writable r.program (frame_of r.lines) shape named.inside in
       let at = address_of r.first (frame_of r.lines) cell.area cell.word in
-      let there = written_there r.program r.lines r.inputs r.first r.start s.cells cell.area cell.word a.keeps writable in
+      let there =
+      written_there r.program r.lines r.inputs r.first r.start s.cells cell.area cell.word a.keeps writable in
       record {
         next = record s { cells = map.insert s.cells at (reg s src) };
         goes = ap (λ p. machine.stored p (reg s src) s) named.is ∙ stored_there s at (reg s src) there;
         agrees = agrees_touch r z _ (Some (touch_of true y cell))
-            (agrees_stored r y s shape a cell.area cell.word (reg s src) named.inside (node_in y src) z (a.registers src) is
+            (agrees_stored r y s shape a cell.area cell.word (reg s src) named.inside (node_in y src) z
+            (a.registers src) is
             writable);
         writes = λ address e. record {
           area = cell.area;
@@ -107,7 +107,8 @@ module _ (t : List Node) (y : Symbols) (table : IsTable t) (fits : FitsTable t y
       }
 
   -- what holds of each state that a store can lead to
-  stored_so : (P : Symbols → Type 0) (cell : Cell) (o : Option Symbols) → ((z : Symbols) → o ≡ Some z → P (with_access cell z))
+  stored_so : (P : Symbols → Type 0) (cell : Cell) (o : Option Symbols)
+      → ((z : Symbols) → o ≡ Some z → P (with_access cell z))
       → IfSome (option_map (with_access cell) o) P
   stored_so P cell None f = tt
   stored_so P cell (Some z) f = f z refl

@@ -1,6 +1,7 @@
 -- A symbolic state with a node stored: it fits, has its shape, and knows what it knew of words that are apart.
-use Rattle.std.proofs.Common.{◌≡◌, ◌≢◌, ◌⊎◌, ℕ, zero, suc, ◌<◌, ◌≤◌, Bool, true, false, not, List, [], ◌∷◌, length, map}
-use Rattle.std.proofs.Common.{Option, Some, None, IfSome, IsTrue, slice_get, slice_set, length-set, if◌then◌else◌, inl, inr, ⊎_elim}
+use Rattle.std.proofs.Common.{◌≡◌, ◌≢◌, ◌⊎◌, ℕ, zero, suc, ◌<◌, Bool, true, false, List, [], ◌∷◌, length, map}
+use Rattle.std.proofs.Common.{Option, Some, None, IfSome, IsTrue, slice_get, slice_set, length-set, if◌then◌else◌, inl}
+use Rattle.std.proofs.Common.{inr, ⊎_elim}
 use Rattle.std.proofs.Common.{option_map, refl, sym, ap, ◌∙◌, subst, arith}
 use Rattle.std.specs.List.{AllByRecursion}
 use Rattle.std.proofs.lemmas.Bool.{false≢true}
@@ -19,7 +20,6 @@ use Rattle.symbolic_values.specs.Symbols.{Symbols}
 use Rattle.symbolic_values.specs.Cells.{after_output, forgotten, known, node_of, stored, with_word}
 use Rattle.symbolic_values.specs.Fitting.{AreKnown, FitsTable, HasShape, HaveShapes}
 use Rattle.symbolic_values.proofs.KnownCells.{all_at, array_known, known_in}
-use Rattle.symbolic_values.proofs.Places.{guarded}
 use Rattle.symbolic_values.proofs.Shapes.{ParamOf, output_is, output_words_are, param_of, words_are}
 
 -- ---- lists
@@ -45,7 +45,8 @@ known_set : (words : List (Option ℕ)) (word w n node : ℕ) → known (slice_s
     → ((w ≡ word) × (n ≡ node)) ⊎ ((w ≢ word) × (known words w ≡ Some n))
 known_set words word w n node e = known_in (slice_get (slice_set words word (Some node)) w) n
     (λ v there is. ⊎_elim (λ h. inl (h.0, same_Some n node (sym is ∙ h.1)))
-    (λ h. inr (h.0, ap (λ (o : Option (Option ℕ)). o >>= λ m. m) h.1 ∙ is)) (set_get words word w (Some node) v there)) e
+    (λ h. inr (h.0, ap (λ (o : Option (Option ℕ)). o >>= λ m. m) h.1 ∙ is))
+    (set_get words word w (Some node) v there)) e
 
 none_known : (words : List (Option ℕ)) (w n : ℕ) → known (map (λ node. None) words) w ≡ Some n → ⊥
 none_known [] w n e = cc
@@ -260,9 +261,11 @@ module _ (y : Symbols) (p word node : ℕ) (array : symbols.Array) (there : slic
   shapes_set params [] i old new e r l shapes = shapes
   shapes_set [] (a ∷ arrays) i old new e r l shapes = absurd shapes
   shapes_set (q ∷ params) (a ∷ arrays) zero old new e r l shapes =
-      let same : a ≡ old = same_Some a old e in
-      (r ∙ (sym (ap (λ (b : symbols.Array). b.role) same) ∙ shapes.0),
-      l ∙ (sym (ap (λ (b : symbols.Array). length b.words) same) ∙ shapes.1), shapes.2)
+      let same : a ≡ old = same_Some a old e in (
+        r ∙ (sym (ap (λ (b : symbols.Array). b.role) same) ∙ shapes.0),
+        l ∙ (sym (ap (λ (b : symbols.Array). length b.words) same) ∙ shapes.1),
+        shapes.2,
+      )
   shapes_set (q ∷ params) (a ∷ arrays) (suc i) old new e r l shapes =
       (shapes.0, shapes.1, shapes_set params arrays i old new e r l shapes.2)
 

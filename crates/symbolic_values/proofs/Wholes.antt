@@ -1,6 +1,5 @@
 -- Whole steps: from rows, and from rows behind a source.
-use Rattle.std.proofs.Common.{◌≡◌, ℕ, ◌+◌, ◌<◌, ◌≤◌, List, length, Option, Some, None, IfSome, refl, sym, ap, ◌∙◌, subst}
-use Rattle.std.proofs.Common.{arith}
+use Rattle.std.proofs.Common.{◌≡◌, ℕ, ◌<◌, List, length, Option, Some, None, IfSome, sym, ap, ◌∙◌, subst}
 use Rattle.x86_instr.specs.declared.instr.Instr.{Instr}
 use Rattle.x86_instr.specs.Fits.{FitsInstr}
 use Rattle.x86_instr.specs.Frame.{frame_of}
@@ -9,7 +8,6 @@ use Rattle.x86_meaning.specs.Machine as machine
 use Rattle.x86_meaning.specs.Touches.{Touched, NoCell, touched, written_address}
 use Rattle.terms.specs.declared.nodes.Node.{Node}
 use Rattle.terms.specs.Tables.{IsTable}
-use Rattle.symbolic_values.specs.declared.touch.Touch.{Touch}
 use Rattle.symbolic_values.specs.Symbols.{Symbols, with_touch}
 use Rattle.symbolic_values.specs.Steps.{Fetched, Step, Word, on_source, stuck}
 use Rattle.symbolic_values.specs.Fitting.{FitsTable}
@@ -28,7 +26,8 @@ StepsIn r i s z = Steps r.program (frame_of r.lines) r.first r.val i s z
 pub record Whole (i : Instr) (t : List Node) (y : Symbols) (o : Step) : Type 1 where
   pub grows : Grows t o.table
   pub fits : IfSome o.state (FitsTable o.table)
-  pub covers : FitsInstr i → (r : Run) (s : State) → Shaped r y → Valued r o.table → Agreed r y s → IfSome o.state (StepsIn r i s)
+  pub covers : FitsInstr i → (r : Run) (s : State) → Shaped r y → Valued r o.table → Agreed r y s
+      → IfSome o.state (StepsIn r i s)
 
 -- ---- stuck steps
 

@@ -1,5 +1,6 @@
 -- What a symbolic state says of a state of the machine, and that a symbolic step covers the machine's step.
-use Rattle.std.specs.Prelude.{◌≡◌, ℕ, ◌+◌, ◌%◌, ◌^◌, ◌<◌, Bool, true, false, List, length, Option, Some, None, slice_index}
+use Rattle.std.specs.Prelude.{◌≡◌, ℕ, ◌+◌, ◌%◌, ◌^◌, ◌<◌, Bool, true, false, List, length, Option, Some, None}
+use Rattle.std.specs.Prelude.{slice_index}
 use Rattle.std.specs.Int.{cast_unsigned, w64}
 use Rattle.std.specs.FinMap as map
 use Rattle.word_program.specs.declared.parameter.Param.{Param}
@@ -18,7 +19,7 @@ use Rattle.x86_meaning.specs.Start.{Area, IsStart, address_of}
 use Rattle.x86_meaning.specs.Touches.{Touched, NoCell, ReadCell, WrittenCell, touched, written_address}
 use Rattle.terms.specs.declared.nodes.Node.{Node}
 use Rattle.terms.specs.Meaning.{IsSound, IsValuation, Start}
-use Rattle.terms.specs.Tables.{IsTable, Prefix}
+use Rattle.terms.specs.Tables.{IsTable}
 use Rattle.symbolic_values.specs.declared.touch.Touch.{Touch}
 use Rattle.symbolic_values.specs.Symbols.{Symbols, node_in}
 use Rattle.symbolic_values.specs.Cells.{node_of}
@@ -53,8 +54,8 @@ pub record IsWritable (params : List Param) (frame : ℕ) (first : State) (addre
   pub inside : word < written_words params frame area
   pub is : address ≡ address_of first frame area word
 
--- the access that the symbolic state tells is the one that the instruction makes: read or written, at so many bytes from
--- what the register held at the start
+-- the access that the symbolic state tells is the one that the instruction makes: read or written, at so many bytes
+-- from what the register held at the start
 abbrev pub TouchAgrees : State → Option Touch → Touched → Type 0
 TouchAgrees first None cell = cell ≡ NoCell
 TouchAgrees first (Some touch) (ReadCell address) = (touch.write ≡ false)
