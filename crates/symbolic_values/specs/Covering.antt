@@ -1,5 +1,6 @@
 -- What a symbolic state says of a state of the machine, and that a symbolic step covers the machine's step.
-use Rattle.std.specs.Prelude.{◌≡◌, ℕ, ◌+◌, ◌%◌, ◌^◌, ◌<◌, Bool, true, false, List, length, Option, Some, None, slice_index}
+use Rattle.std.specs.Prelude.{◌≡◌, ℕ, ◌+◌, ◌%◌, ◌^◌, ◌<◌, Bool, true, false, List, length, Option, Some, None}
+use Rattle.std.specs.Prelude.{slice_index}
 use Rattle.std.specs.Int.{cast_unsigned, w64}
 use Rattle.std.specs.FinMap as map
 use Rattle.word_program.specs.declared.parameter.Param.{Param}
@@ -8,6 +9,7 @@ use Rattle.word_program.specs.Values.{input_word}
 use Rattle.x86_instr.specs.declared.instr.Instr.{Instr}
 use Rattle.x86_instr.specs.declared.line.Line.{Line}
 use Rattle.x86_instr.specs.declared.operand.Reg.{Reg}
+use Rattle.x86_instr.specs.Fits.{FitsInstr}
 use Rattle.x86_instr.specs.Frame.{frame_of}
 use Rattle.x86_meaning.specs.declared.state.State.{State}
 use Rattle.x86_meaning.specs.Correct.{Keeps, written_words}
@@ -17,7 +19,7 @@ use Rattle.x86_meaning.specs.Start.{Area, IsStart, address_of}
 use Rattle.x86_meaning.specs.Touches.{Touched, NoCell, ReadCell, WrittenCell, touched, written_address}
 use Rattle.terms.specs.declared.nodes.Node.{Node}
 use Rattle.terms.specs.Meaning.{IsSound, IsValuation, Start}
-use Rattle.terms.specs.Tables.{IsTable, Prefix}
+use Rattle.terms.specs.Tables.{IsTable}
 use Rattle.symbolic_values.specs.declared.touch.Touch.{Touch}
 use Rattle.symbolic_values.specs.Symbols.{Symbols, node_in}
 use Rattle.symbolic_values.specs.Cells.{node_of}
@@ -52,8 +54,8 @@ pub record IsWritable (params : List Param) (frame : ℕ) (first : State) (addre
   pub inside : word < written_words params frame area
   pub is : address ≡ address_of first frame area word
 
--- the access that the symbolic state tells is the one that the instruction makes: read or written, at so many bytes from
--- what the register held at the start
+-- the access that the symbolic state tells is the one that the instruction makes: read or written, at so many bytes
+-- from what the register held at the start
 abbrev pub TouchAgrees : State → Option Touch → Touched → Type 0
 TouchAgrees first None cell = cell ≡ NoCell
 TouchAgrees first (Some touch) (ReadCell address) = (touch.write ≡ false)
@@ -76,7 +78,9 @@ pub record Steps (program : Source) (frame : ℕ) (first : State) (val : ℕ →
 -- The symbolic step of the instruction covers the machine's step: in every run of a listing for a program, where the
 -- two states agree and the symbolic step is not stuck. `val` gives the nodes' words in this run.
 abbrev pub Covers : Instr → List Node → Symbols → Type 0
-Covers i table y = IsTable table → FitsTable table y → (program : Source) (lines : List Line) (inputs : List ℕ) (first s : State) (val : ℕ → ℕ)
+Covers i table y =
+    FitsInstr i → IsTable table → FitsTable table y
+    → (program : Source) (lines : List Line) (inputs : List ℕ) (first s : State) (val : ℕ → ℕ)
     → IsStart program lines inputs first → HasShape program (frame_of lines) y
     → (z : Symbols) → (step_of i table y).state ≡ Some z
     → IsValuation (start_of program.params inputs first) (step_of i table y).table val

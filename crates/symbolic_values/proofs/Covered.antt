@@ -1,0 +1,48 @@
+-- The facts of a step over a table, one by one: what its table is, that its state fits, and that it covers the
+-- machine's step.
+use Rattle.std.proofs.Common.{◌≡◌, List, Option, Some, None, IfSome, subst}
+use Rattle.x86_instr.specs.declared.instr.Instr.{Instr}
+use Rattle.x86_instr.specs.Frame.{frame_of}
+use Rattle.terms.specs.declared.nodes.Node.{Node}
+use Rattle.terms.specs.declared.nodes.Form.{Form}
+use Rattle.terms.specs.Tables.{IsTable}
+use Rattle.terms.specs.Grown.{IsGrown}
+use Rattle.symbolic_values.specs.Symbols.{Symbols}
+use Rattle.symbolic_values.specs.Steps.{step_of}
+use Rattle.symbolic_values.specs.Fitting.{FitsTable}
+use Rattle.symbolic_values.specs.Covering.{Covers}
+use Rattle.symbolic_values.proofs.AllSteps.{step_whole}
+use Rattle.symbolic_values.proofs.Results.{agrees_touch}
+use Rattle.symbolic_values.proofs.Rows.{IsPlain, Run}
+use Rattle.symbolic_values.proofs.StepTables.{touch_shape}
+use Rattle.symbolic_values.proofs.Wholes.{StepsIn}
+
+-- what holds of a value that is there
+there : {X : Type 0} (P : X → Type 0) (o : Option X) (x : X) → o ≡ Some x → IfSome o P → P x
+there P o x e p = subst (λ v. IfSome v P) e p
+
+module _ (i : Instr) (t : List Node) (y : Symbols) (table : IsTable t) (fits : FitsTable t y) where
+  pub step_table : IsTable (step_of i t y).table
+  step_table = (step_whole i t y table fits).grows.table
+
+  -- forms other than a register's start and an input are made
+  pub step_grown : (P : Form → Type 0) → ((f : Form) → IsPlain f → P f) → IsGrown P t
+      → IsGrown P (step_of i t y).table
+  step_grown = (step_whole i t y table fits).grows.grown
+
+  pub step_fits : (z : Symbols) → (step_of i t y).state ≡ Some z → FitsTable (step_of i t y).table z
+  step_fits z e = there (FitsTable (step_of i t y).table) (step_of i t y).state z e (step_whole i t y table fits).fits
+
+pub covers : (i : Instr) (t : List Node) (y : Symbols) → Covers i t y
+covers i t y fit table fits program lines inputs first s val start shape z e is sound a =
+    let r : Run = record {
+      program = program;
+      lines = lines;
+      inputs = inputs;
+      first = first;
+      start = start;
+      val = val;
+    } in
+    there (StepsIn r i s) (step_of i t y).state z e
+    ((step_whole i t y table fits).covers fit r s (touch_shape y None program (frame_of lines) shape)
+    (record { is = is; sound = sound }) (agrees_touch r y s None a))
