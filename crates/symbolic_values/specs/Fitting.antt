@@ -1,10 +1,13 @@
 -- What holds between a table, a program and a symbolic state.
 use Rattle.std.specs.Prelude.{◌≡◌, ℕ, ◌/◌, ◌<◌, ◌≤◌, List, [], ◌∷◌, length, map, Option, Some, IfSome, if◌then◌else◌}
+use Rattle.std.specs.Prelude.{IsFalse, IsSomeAnd, slice_get}
 use Rattle.std.specs.List.{All, AllByRecursion}
 use Rattle.word_program.specs.declared.parameter.Param.{Param}
 use Rattle.word_program.specs.Program.{Source}
-use Rattle.word_program.specs.Values.{is_scalar}
+use Rattle.word_program.specs.Values.{is_output, is_scalar, word_bounds}
 use Rattle.terms.specs.declared.nodes.Node.{Node}
+use Rattle.terms.specs.declared.nodes.Form.{Form}
+use Rattle.terms.specs.declared.nodes.Form.TheVariants as forms
 use Rattle.terms.specs.Tables.{node_at}
 use Rattle.symbolic_values.specs.Symbols.{Array, Symbols}
 
@@ -40,3 +43,10 @@ pub record HasShape (program : Source) (frame : ℕ) (y : Symbols) : Type 0 wher
   pub arrays : HaveShapes program.params y.arrays
   pub frame_words : length y.frame ≡ frame / 8
   pub overlap : y.overlap ≡ program.overlap
+
+-- A form that is made for a program: an input word is that of an input parameter, and has its bounds. Every other form
+-- has no condition.
+abbrev pub IsProgramForm : List Param → Form → Type 0
+IsProgramForm params (forms.In param word low high) = (word_bounds params param word ≡ record { low = low; high = high })
+    × IsSomeAnd (slice_get params param) (λ p. IsFalse (is_output p.role) × (word < length p.bounds))
+IsProgramForm params _ = Unit {0}
