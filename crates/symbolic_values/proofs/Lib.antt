@@ -1,1 +1,5 @@
 -- The lemmas of this crate, one subject a file.
+pub mod Made
+pub mod ResultRows
+pub mod Growing
+pub mod SourceRows

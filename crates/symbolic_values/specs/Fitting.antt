@@ -1,7 +1,9 @@
 -- What holds between a table, a program and a symbolic state.
 use Rattle.std.specs.Prelude.{◌≡◌, ℕ, ◌/◌, ◌<◌, ◌≤◌, List, [], ◌∷◌, length, map, Option, Some, IfSome, if◌then◌else◌}
-use Rattle.std.specs.Prelude.{IsFalse, IsSomeAnd, slice_get}
+use Rattle.std.specs.Prelude.{Bool, true, IsFalse, IsSomeAnd, slice_get}
 use Rattle.std.specs.List.{All, AllByRecursion}
+use Rattle.word_operations.specs.declared.kind.Kind.{Kind}
+use Rattle.word_operations.specs.Operations.{operand_count, takes_bit}
 use Rattle.word_program.specs.declared.parameter.Param.{Param}
 use Rattle.word_program.specs.Program.{Source}
 use Rattle.word_program.specs.Values.{is_output, is_scalar, word_bounds}
@@ -15,6 +17,26 @@ use Rattle.symbolic_values.specs.Symbols.{Array, Symbols}
 pub record IsBit (table : List Node) (number : ℕ) : Type 0 where
   pub inside : number < length table
   pub high : (node_at table number).high ≤ 1
+
+-- the number of a node, which is at most 1 where it is told to be a bit
+pub record IsNodeOf (table : List Node) (told : Bool) (number : ℕ) : Type 0 where
+  pub inside : number < length table
+  pub bit : told ≡ true → (node_at table number).high ≤ 1
+
+-- as many nodes as are told of
+abbrev pub AreNodesOf : List Node → List Bool → List ℕ → Type 0
+AreNodesOf table [] [] = Unit {0}
+AreNodesOf table [] (number ∷ numbers) = ⊥
+AreNodesOf table (told ∷ more) [] = ⊥
+AreNodesOf table (told ∷ more) (number ∷ numbers) = IsNodeOf table told number × AreNodesOf table more numbers
+
+-- Nodes of the operands of an operation of this kind, as many as it has; the first one is at most 1 where the kind
+-- takes a carry, a borrow or a condition.
+pub record AreOperandNodes (table : List Node) (kind : Kind) (a b c : ℕ) : Type 0 where
+  pub first : a < length table
+  pub second : 2 ≤ operand_count kind → b < length table
+  pub third : 3 ≤ operand_count kind → c < length table
+  pub taken : takes_bit kind ≡ true → (node_at table a).high ≤ 1
 
 -- the words that are known are nodes of the table
 abbrev pub AreKnown : List Node → List (Option ℕ) → Type 0
