@@ -3,3 +3,4 @@ pub mod Made
 pub mod ResultRows
 pub mod Growing
 pub mod SourceRows
+pub mod SourceTables

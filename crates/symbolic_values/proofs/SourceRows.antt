@@ -90,7 +90,7 @@ both_bits : (t : List Node) (p q : Bool) (a b : ℕ) → (p ≡ true → (node_a
     → ((node_at t a).high ≤ 1) × ((node_at t b).high ≤ 1)
 both_bits t p q a b f g e = let h = and_parts p q e in (f h.0, g h.1)
 
-never : {A : Type 0} → false ≡ true → A
+pub never : {A : Type 0} → false ≡ true → A
 never e = absurd (cc)
 
 module _ (ps : List Param) where
