@@ -1,6 +1,5 @@
 -- What the lemmas on tables say, until those of the crate of tables stand.
 use Rattle.std.proofs.Common.{◌≡◌, ℕ, ◌+◌, ◌<◌, ◌≤◌, ◌^◌, List, length, ◌⊎◌}
-use Rattle.terms.specs.declared.nodes.NodeKind.TheVariants as kinds
 use Rattle.terms.specs.declared.nodes.Node.{Node}
 use Rattle.terms.specs.declared.nodes.Form.{Form}
 use Rattle.terms.specs.declared.nodes.Form.TheVariants as forms
@@ -58,11 +57,6 @@ pub made_again_in : (param word low high : ℕ) (t u : List Node)
     → made u (forms.In param word low high)
     ≡ record { table = u; number = (made t (forms.In param word low high)).number }
 made_again_in param word low high t u p = ?
-
-pub made_in : (t : List Node) (param word low high : ℕ)
-    → node_at (made t (forms.In param word low high)).table (made t (forms.In param word low high)).number
-    ≡ record { kind = kinds.In param word; low = low; high = high }
-made_in t param word low high = ?
 
 -- the node of such a form is at most 1
 abbrev pub IsBitForm : List Node → Form → Type 0

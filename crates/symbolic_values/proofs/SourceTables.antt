@@ -121,7 +121,7 @@ module _ (ps : List Param) (params : AllByRecursion IsParam ps) where
 
 -- ---- an operation
 
-some_operand : (kind : Kind) → 1 ≤ operand_count kind
+pub some_operand : (kind : Kind) → 1 ≤ operand_count kind
 some_operand AddCarry = omega arith
 some_operand SubBorrow = omega arith
 some_operand MulX = omega arith
