@@ -8,3 +8,4 @@ pub mod SourceNodes
 pub mod SourceStarts
 pub mod RowValues
 pub mod SourceValues
+pub mod SourceOutputs

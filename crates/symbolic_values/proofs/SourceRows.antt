@@ -36,7 +36,7 @@ terms_below n ts t = All-from_recursion (λ (t : Term). t.node < n) ts t
 pub numbers_below : (n : ℕ) (ms : List ℕ) → AllByRecursion (λ m. m < n) ms → AreBelow n ms
 numbers_below n ms t = All-from_recursion (λ (m : ℕ). m < n) ms t
 
-abbrev one_if : Bool → ℕ
+abbrev pub one_if : Bool → ℕ
 one_if b = if b then 1 else 0
 
 -- of three numbers of which the first does not pass at most two pass
