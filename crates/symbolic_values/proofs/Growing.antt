@@ -11,16 +11,16 @@ use Rattle.terms.specs.Grown.{IsGrown}
 use Rattle.terms.specs.Meaning.{Admits, IsSound, IsValuation, Start, form_value}
 use Rattle.term_store.specs.Interning.{AllMade, made, made_all}
 use Rattle.symbolic_values.specs.Fitting.{AreNodesOf, IsNodeOf}
-use Rattle.symbolic_values.proofs.Made.{at_front, fits_later, made_below, made_bit, made_grown, made_most, made_prefix}
+use Rattle.symbolic_values.proofs.Made.{at_front, fits_later, made_below, made_low, made_grown, made_most, made_prefix}
 use Rattle.symbolic_values.proofs.Made.{made_table, made_value, prefix_length, prefix_refl, prefix_trans, sound_front}
-use Rattle.symbolic_values.proofs.Made.{valuation_front, IsBitForm}
+use Rattle.symbolic_values.proofs.Made.{valuation_front, MakesBit}
 
 -- ---- nodes in longer tables
 
 pub node_later : (t u : List Node) (told : Bool) (n : ℕ) → Prefix t u → IsNodeOf t told n → IsNodeOf u told n
-node_later t u told n p is = let more = prefix_length t u p in let below = is.inside in record {
+node_later t u told n p is = let more = prefix_length p in let below = is.inside in record {
   inside = omega arith;
-  bit = λ e. subst (λ (node : Node). node.high ≤ 1) (sym (at_front t u n p is.inside)) (is.bit e);
+  bit = λ e. subst (λ (node : Node). node.high ≤ 1) (sym (at_front n p is.inside)) (is.bit e);
 }
 
 pub nodes_later : (t u : List Node) (bs : List Bool) (ns : List ℕ) → Prefix t u → AreNodesOf t bs ns → AreNodesOf u bs ns
@@ -36,7 +36,7 @@ nodes_append t [] cs (m ∷ ms) ns are more = absurd are
 nodes_append t (b ∷ bs) cs [] ns are more = absurd are
 nodes_append t (b ∷ bs) cs (m ∷ ms) ns are more = (are.0, nodes_append t bs cs ms ns are.1 more)
 
-bit_form_later : (t u : List Node) (f : Form) → Prefix t u → FormFits t f → IsBitForm t f → IsBitForm u f
+bit_form_later : (t u : List Node) (f : Form) → Prefix t u → FormFits t f → MakesBit t f → MakesBit u f
 bit_form_later t u (forms.Const v) p fits bit = bit
 bit_form_later t u (forms.Start reg) p fits bit = bit
 bit_form_later t u (forms.In param word low high) p fits bit = bit
@@ -47,14 +47,14 @@ bit_form_later t u (forms.Zero x) p fits bit = tt
 bit_form_later t u (forms.MulLo a b) p fits bit = bit
 bit_form_later t u (forms.MulHi a b) p fits bit = bit
 bit_form_later t u (forms.And a b) p fits bit =
-    rw (at_front t u a p fits.0, at_front t u b p fits.1) bit
+    rw (at_front a p fits.0, at_front b p fits.1) bit
 bit_form_later t u (forms.Or a b) p fits bit =
-    rw (at_front t u a p fits.0, at_front t u b p fits.1) bit
+    rw (at_front a p fits.0, at_front b p fits.1) bit
 bit_form_later t u (forms.Xor a b) p fits bit =
-    rw (at_front t u a p fits.0, at_front t u b p fits.1) bit
+    rw (at_front a p fits.0, at_front b p fits.1) bit
 bit_form_later t u (forms.Shr x k) p fits bit = bit
 bit_form_later t u (forms.Select c x y) p fits bit =
-    rw (at_front t u x p fits.1, at_front t u y p fits.2) bit
+    rw (at_front x p fits.1, at_front y p fits.2) bit
 bit_form_later t u (forms.SetB v b) p fits bit = bit
 
 -- ---- one form
@@ -76,7 +76,7 @@ grows_more P t u m k h a = let few = a.few in
 pub grows_on : (P : Form → Type 0) (t u w : List Node) (m n k : ℕ) → m + n ≤ k → Grows P t m u → Grows P u n w
     → Grows P t k w
 grows_on P t u w m n k h a b = let few = a.few in let more = b.few in record {
-  prefix = prefix_trans t u w a.prefix b.prefix;
+  prefix = prefix_trans a.prefix b.prefix;
   table = b.table;
   grown = b.grown;
   few = omega arith;
@@ -92,10 +92,10 @@ made_grows P t f table grown fits has = record {
 }
 
 made_is : (P : Form → Type 0) (t : List Node) (f : Form) (told : Bool) → IsTable t → IsGrown P t → FormFits t f
-    → (told ≡ true → IsBitForm t f) → IsNodeOf (made t f).table told (made t f).number
+    → (told ≡ true → MakesBit t f) → IsNodeOf (made t f).table told (made t f).number
 made_is P t f told table grown fits bit = record {
   inside = made_below t f table fits;
-  bit = λ e. made_bit P t f table grown fits (bit e);
+  bit = λ e. made_low P t f table grown fits (bit e);
 }
 
 -- ---- many forms
@@ -105,12 +105,12 @@ abbrev pub AreBitForms : List Node → List Bool → List Form → Type 0
 AreBitForms t [] [] = Unit {0}
 AreBitForms t [] (f ∷ fs) = ⊥
 AreBitForms t (told ∷ more) [] = ⊥
-AreBitForms t (told ∷ more) (f ∷ fs) = (told ≡ true → IsBitForm t f) × AreBitForms t more fs
+AreBitForms t (told ∷ more) (f ∷ fs) = (told ≡ true → MakesBit t f) × AreBitForms t more fs
 
 all_fit_later : (t u : List Node) (fs : List Form) → Prefix t u → AllByRecursion (FormFits t) fs
     → AllByRecursion (FormFits u) fs
 all_fit_later t u [] p fit = tt
-all_fit_later t u (f ∷ fs) p fit = (fits_later t u f p fit.0, all_fit_later t u fs p fit.1)
+all_fit_later t u (f ∷ fs) p fit = (fits_later f p fit.0, all_fit_later t u fs p fit.1)
 
 bit_forms_later : (t u : List Node) (bs : List Bool) (fs : List Form) → Prefix t u → AllByRecursion (FormFits t) fs
     → AreBitForms t bs fs → AreBitForms u bs fs
@@ -157,6 +157,6 @@ all_made_values P t (f ∷ fs) table grown fit have start val admit is sound =
     let later = all_fit_later t u fs first.prefix fit.1 in
     let rest = all_made_grows P u fs first.table first.grown later have.1 in
     let here = made_value start val t f table fit.0 admit.0
-        (valuation_front start val u (made_all u fs).table rest.prefix is)
-        (sound_front val u (made_all u fs).table rest.prefix sound) in
+        (valuation_front rest.prefix is)
+        (sound_front rest.prefix sound) in
     rw (here, all_made_values P u fs first.table first.grown later have.1 start val admit.1 is sound) refl

@@ -30,48 +30,52 @@ pub made_grown : (P : Form → Type 0) (t : List Node) (f : Form) → IsGrown P 
     → IsGrown P (made t f).table
 made_grown P t f grown fits has = ?
 
-pub at_front : (t u : List Node) (n : ℕ) → Prefix t u → n < length t → node_at u n ≡ node_at t n
-at_front t u n p h = ?
+pub at_front : {t u : List Node} (n : ℕ) → Prefix t u → n < length t → node_at u n ≡ node_at t n
+at_front n p h = ?
 
 pub prefix_refl : (t : List Node) → Prefix t t
 prefix_refl t = ?
 
-pub prefix_trans : (t u w : List Node) → Prefix t u → Prefix u w → Prefix t w
-prefix_trans t u w p q = ?
+pub prefix_trans : {t u w : List Node} → Prefix t u → Prefix u w → Prefix t w
+prefix_trans p q = ?
 
-pub prefix_length : (t u : List Node) → Prefix t u → length t ≤ length u
-prefix_length t u p = ?
+pub prefix_length : {t u : List Node} → Prefix t u → length t ≤ length u
+prefix_length p = ?
 
-pub valuation_front : (start : Start) (val : ℕ → ℕ) (t u : List Node) → Prefix t u → IsValuation start u val
+pub valuation_front : {t u : List Node} {start : Start} {val : ℕ → ℕ} → Prefix t u → IsValuation start u val
     → IsValuation start t val
-valuation_front start val t u p is = ?
+valuation_front p is = ?
 
-pub sound_front : (val : ℕ → ℕ) (t u : List Node) → Prefix t u → IsSound u val → IsSound t val
-sound_front val t u p is = ?
+pub sound_front : {t u : List Node} {val : ℕ → ℕ} → Prefix t u → IsSound u val → IsSound t val
+sound_front p sound = ?
 
-pub fits_later : (t u : List Node) (f : Form) → Prefix t u → FormFits t f → FormFits u f
-fits_later t u f p fits = ?
+pub fits_later : {t u : List Node} (form : Form) → Prefix t u → FormFits t form → FormFits u form
+fits_later form p fits = ?
 
-pub made_again_in : (param word low high : ℕ) (t u : List Node)
-    → Prefix (made t (forms.In param word low high)).table u
-    → made u (forms.In param word low high)
-    ≡ record { table = u; number = (made t (forms.In param word low high)).number }
-made_again_in param word low high t u p = ?
+abbrev pub IsPlain : Form → Type 0
+IsPlain (forms.Const v) = Unit {0}
+IsPlain (forms.Start reg) = Unit {0}
+IsPlain (forms.In param word low high) = Unit {0}
+IsPlain _ = ⊥
+
+pub made_again_plain : {u : List Node} (t : List Node) (form : Form) → IsPlain form → Prefix (made t form).table u
+    → made u form ≡ record { table = u; number = (made t form).number }
+made_again_plain t form h p = ?
 
 -- the node of such a form is at most 1
-abbrev pub IsBitForm : List Node → Form → Type 0
-IsBitForm table (forms.Const v) = v ≤ 1
-IsBitForm table (forms.In param word low high) = high ≤ 1
-IsBitForm table (forms.Carry list) = Unit {0}
-IsBitForm table (forms.Borrow a list) = Unit {0}
-IsBitForm table (forms.Zero x) = Unit {0}
-IsBitForm table (forms.And a b) = ((node_at table a).high ≤ 1) ⊎ ((node_at table b).high ≤ 1)
-IsBitForm table (forms.Or a b) = ((node_at table a).high ≤ 1) × ((node_at table b).high ≤ 1)
-IsBitForm table (forms.Xor a b) = ((node_at table a).high ≤ 1) × ((node_at table b).high ≤ 1)
-IsBitForm table (forms.Shr x k) = k ≡ 63
-IsBitForm table (forms.Select c x y) = ((node_at table x).high ≤ 1) × ((node_at table y).high ≤ 1)
-IsBitForm table _ = ⊥
+abbrev pub MakesBit : List Node → Form → Type 0
+MakesBit table (forms.Const v) = v ≤ 1
+MakesBit table (forms.In param word low high) = high ≤ 1
+MakesBit table (forms.Carry list) = Unit {0}
+MakesBit table (forms.Borrow a list) = Unit {0}
+MakesBit table (forms.Zero x) = Unit {0}
+MakesBit table (forms.And a b) = ((node_at table a).high ≤ 1) ⊎ ((node_at table b).high ≤ 1)
+MakesBit table (forms.Or a b) = ((node_at table a).high ≤ 1) × ((node_at table b).high ≤ 1)
+MakesBit table (forms.Xor a b) = ((node_at table a).high ≤ 1) × ((node_at table b).high ≤ 1)
+MakesBit table (forms.Shr x k) = k ≡ 63
+MakesBit table (forms.Select c x y) = ((node_at table x).high ≤ 1) × ((node_at table y).high ≤ 1)
+MakesBit table _ = ⊥
 
-pub made_bit : (P : Form → Type 0) (t : List Node) (f : Form) → IsTable t → IsGrown P t → FormFits t f → IsBitForm t f
-    → (node_at (made t f).table (made t f).number).high ≤ 1
-made_bit P t f table grown fits bit = ?
+pub made_low : (P : Form → Type 0) (t : List Node) (form : Form) → IsTable t → IsGrown P t → FormFits t form
+    → MakesBit t form → (node_at (made t form).table (made t form).number).high ≤ 1
+made_low P t form table grown fits bit = ?

@@ -37,8 +37,8 @@ module _ (ps : List Param) (start : Start) (val : ℕ → ℕ) where
 
   pub valued_front : (t u : List Node) (m : ℕ) → Grows (IsProgramForm ps) t m u → IsValued u → IsValued t
   valued_front t u m g v = record {
-    valuation = valuation_front start val t u g.prefix v.valuation;
-    sound = sound_front val t u g.prefix v.sound;
+    valuation = valuation_front g.prefix v.valuation;
+    sound = sound_front g.prefix v.sound;
   }
 
   module _ (t : List Node) (table : IsTable t) (grown : IsGrown (IsProgramForm ps) t) where

@@ -25,7 +25,7 @@ use Rattle.symbolic_values.specs.Cells.{term}
 use Rattle.symbolic_values.specs.Steps.{plus, minus, sum}
 use Rattle.symbolic_values.specs.Fitting.{AreNodesOf, AreOperandNodes, IsNodeOf, IsProgramForm}
 use Rattle.symbolic_values.specs.Sources.{results_made}
-use Rattle.symbolic_values.proofs.Made.{IsBitForm}
+use Rattle.symbolic_values.proofs.Made.{MakesBit}
 use Rattle.symbolic_values.proofs.Growing.{Grows, all_made_are, all_made_grows, grows_more, grows_not, grows_on}
 
 -- ---- forms that fit
@@ -105,13 +105,13 @@ module _ (ps : List Param) where
     two_grow f g fits also has have = grows_more (IsProgramForm ps) t (made_all t (f ∷ g ∷ [])).table 2 3 (omega arith)
         (all_made_grows (IsProgramForm ps) t (f ∷ g ∷ []) table grown (fits, (also, tt)) (has, (have, tt)))
 
-    one_is : (f : Form) (p : Bool) → FormFits t f → IsProgramForm ps f → (p ≡ true → IsBitForm t f)
+    one_is : (f : Form) (p : Bool) → FormFits t f → IsProgramForm ps f → (p ≡ true → MakesBit t f)
         → AreNodesOf (made_all t (f ∷ [])).table (p ∷ []) (made_all t (f ∷ [])).numbers
     one_is f p fits has bit =
         all_made_are (IsProgramForm ps) t (p ∷ []) (f ∷ []) table grown (fits, tt) (has, tt) (bit, tt)
 
     two_are : (f g : Form) (p q : Bool) → FormFits t f → FormFits t g → IsProgramForm ps f → IsProgramForm ps g
-        → (p ≡ true → IsBitForm t f) → (q ≡ true → IsBitForm t g)
+        → (p ≡ true → MakesBit t f) → (q ≡ true → MakesBit t g)
         → AreNodesOf (made_all t (f ∷ g ∷ [])).table (p ∷ q ∷ []) (made_all t (f ∷ g ∷ [])).numbers
     two_are f g p q fits also has have bit bits = all_made_are (IsProgramForm ps) t (p ∷ q ∷ []) (f ∷ g ∷ []) table
         grown (fits, (also, tt)) (has, (have, tt)) (bit, (bits, tt))

@@ -18,7 +18,7 @@ use Rattle.terms.specs.Tables.{node_at, IsTable, Prefix}
 use Rattle.terms.specs.Rules.{finished, normal_of}
 use Rattle.term_store.specs.Interning.{Interned, interned, made, made_all}
 use Rattle.symbolic_values.specs.Sources.{input_form, inputs_from, param_forms, source_made, start_forms}
-use Rattle.symbolic_values.proofs.Made.{made_again_in, made_below, made_prefix, prefix_refl, prefix_trans}
+use Rattle.symbolic_values.proofs.Made.{made_again_plain, made_below, made_prefix, prefix_refl, prefix_trans}
 use Rattle.symbolic_values.proofs.SourceTables.{bounds_word}
 use Rattle.symbolic_values.proofs.SourceNodes.{source_grows, source_table}
 
@@ -26,7 +26,7 @@ use Rattle.symbolic_values.proofs.SourceNodes.{source_grows, source_table}
 
 all_made_prefix : (t : List Node) (fs : List Form) → Prefix t (made_all t fs).table
 all_made_prefix t [] = prefix_refl t
-all_made_prefix t (f ∷ fs) = prefix_trans t (made t f).table (made_all (made t f).table fs).table (made_prefix t f)
+all_made_prefix t (f ∷ fs) = prefix_trans (made_prefix t f)
     (all_made_prefix (made t f).table fs)
 
 all_made_table : (t : List Node) (fs gs : List Form)
@@ -64,7 +64,7 @@ source_starts program accepted r h =
     let u = (made_all [] (map forms.Start (range_with_len 0 16))).table in
     let w = (made_all [] (start_forms program.params)).table in
     let split : w ≡ (made_all u inputs).table = all_made_table [] (map forms.Start (range_with_len 0 16)) inputs in
-    let p = prefix_trans u w (source_made program).table
+    let p = prefix_trans
         (subst (Prefix u) (sym split) (all_made_prefix u inputs)) (source_grows program accepted).prefix in
     let here : slice_get u r ≡ Some (start_node r) =
         ap (λ (t : List Node). slice_get t r) starts ∙ get_mapped start_node 0 16 r h
@@ -149,11 +149,11 @@ input_there program accepted param word h =
     let whole = (source_made program).table in
     let split : w ≡ (made_all (made t form).table a.after).table =
         ap (λ (fs : List Form). (made_all [] fs).table) a.is ∙ all_made_table [] a.before (form ∷ a.after) in
-    let p = prefix_trans (made t form).table w whole
+    let p = prefix_trans
         (subst (Prefix (made t form).table) (sym split) (all_made_prefix (made t form).table a.after))
         (source_grows program accepted).prefix in
     let again = λ (u : List Node) (q : Prefix whole u).
-        made_again_in param word _ _ t u (prefix_trans (made t form).table whole u p q) in
+        made_again_plain t form tt (prefix_trans p q) in
     let below = made_below whole form (source_table program accepted)
         (bounds_word program.params accepted.params param word) in
     let here = again whole (prefix_refl whole) in
