@@ -9,3 +9,4 @@ pub mod SourceStarts
 pub mod RowValues
 pub mod SourceValues
 pub mod SourceOutputs
+pub mod FormSteps

@@ -29,7 +29,7 @@ all_made_prefix t [] = prefix_refl t
 all_made_prefix t (f ∷ fs) = prefix_trans (made_prefix t f)
     (all_made_prefix (made t f).table fs)
 
-all_made_table : (t : List Node) (fs gs : List Form)
+pub all_made_table : (t : List Node) (fs gs : List Form)
     → (made_all t (fs ++ gs)).table ≡ (made_all (made_all t fs).table gs).table
 all_made_table t [] gs = refl
 all_made_table t (f ∷ fs) gs = all_made_table (made t f).table fs gs

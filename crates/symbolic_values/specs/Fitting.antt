@@ -5,13 +5,23 @@ use Rattle.std.specs.List.{All, AllByRecursion}
 use Rattle.word_operations.specs.declared.kind.Kind.{Kind}
 use Rattle.word_operations.specs.Operations.{operand_count, takes_bit}
 use Rattle.word_program.specs.declared.parameter.Param.{Param}
+use Rattle.word_program.specs.declared.operation.Op.{Op}
+use Rattle.word_program.specs.Accepted.{IsOp}
 use Rattle.word_program.specs.Program.{Source}
 use Rattle.word_program.specs.Values.{is_output, is_scalar, word_bounds}
 use Rattle.terms.specs.declared.nodes.Node.{Node}
 use Rattle.terms.specs.declared.nodes.Form.{Form}
 use Rattle.terms.specs.declared.nodes.Form.TheVariants as forms
-use Rattle.terms.specs.Tables.{node_at}
+use Rattle.terms.specs.Tables.{node_at, IsTable}
+use Rattle.terms.specs.Grown.{IsGrown}
 use Rattle.symbolic_values.specs.Symbols.{Array, Symbols}
+
+-- A form that is made for a program: an input word is that of an input parameter, and has its bounds. Every other form
+-- has no condition.
+abbrev pub IsProgramForm : List Param → Form → Type 0
+IsProgramForm params (forms.In param word low high) = (word_bounds params param word ≡ record { low = low; high = high })
+    × IsSomeAnd (slice_get params param) (λ p. IsFalse (is_output p.role) × (word < length p.bounds))
+IsProgramForm params _ = Unit {0}
 
 -- the number of a node that is at most 1
 pub record IsBit (table : List Node) (number : ℕ) : Type 0 where
@@ -37,6 +47,15 @@ pub record AreOperandNodes (table : List Node) (kind : Kind) (a b c : ℕ) : Typ
   pub second : 2 ≤ operand_count kind → b < length table
   pub third : 3 ≤ operand_count kind → c < length table
   pub taken : takes_bit kind ≡ true → (node_at table a).high ≤ 1
+
+-- what stands before an operation: a table that forms of the program made, and nodes of the values so far, of which
+-- these are bits
+pub record IsNextOp (params : List Param) (table : List Node) (values : List ℕ) (op : Op) : Type 0 where
+  pub bits : List Bool
+  pub legal : IsOp params bits op
+  pub is_table : IsTable table
+  pub grown : IsGrown (IsProgramForm params) table
+  pub nodes : AreNodesOf table bits values
 
 -- the words that are known are nodes of the table
 abbrev pub AreKnown : List Node → List (Option ℕ) → Type 0
@@ -65,10 +84,3 @@ pub record HasShape (program : Source) (frame : ℕ) (y : Symbols) : Type 0 wher
   pub arrays : HaveShapes program.params y.arrays
   pub frame_words : length y.frame ≡ frame / 8
   pub overlap : y.overlap ≡ program.overlap
-
--- A form that is made for a program: an input word is that of an input parameter, and has its bounds. Every other form
--- has no condition.
-abbrev pub IsProgramForm : List Param → Form → Type 0
-IsProgramForm params (forms.In param word low high) = (word_bounds params param word ≡ record { low = low; high = high })
-    × IsSomeAnd (slice_get params param) (λ p. IsFalse (is_output p.role) × (word < length p.bounds))
-IsProgramForm params _ = Unit {0}

@@ -2,6 +2,8 @@
 #![tactic(auto)]
 
 mod forms;
+mod inputs;
+mod operands;
 mod results;
 mod touch;
 

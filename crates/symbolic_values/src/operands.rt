@@ -1,0 +1,1 @@
+//! The nodes of operands and of operations.
