@@ -1,13 +1,14 @@
 -- Forms that are made one after the other, from the next one on.
 use Rattle.std.proofs.Common.{◌≡◌, ℕ, suc, ◌+◌, ◌-◌, ◌<◌, List, [], ◌∷◌, ◌++◌, map, drop, get_or, length}
-use Rattle.std.proofs.Common.{arith, refl}
+use Rattle.std.proofs.Common.{ap, arith, refl}
 use Rattle.std.proofs.lemmas.List.{drop_more}
 use Rattle.std.specs.List.{range_with_len}
 use Rattle.terms.specs.declared.nodes.Node.{Node}
 use Rattle.terms.specs.declared.nodes.Form.{Form}
 use Rattle.term_store.specs.Interning.{made, made_all}
 use Rattle.word_program.specs.declared.parameter.Param.{Param}
-use Rattle.symbolic_values.specs.Sources.{inputs_from, param_forms}
+use Rattle.word_program.specs.declared.operation.Operand.{Operand}
+use Rattle.symbolic_values.specs.Sources.{inputs_from, operand_made, operands_made, param_forms}
 use Rattle.symbolic_values.proofs.SourceStarts.{all_made_table}
 
 range_step : (a e : ℕ) → a < e → range_with_len a (e - a) ≡ a ∷ range_with_len (a + 1) (e - (a + 1))
@@ -26,3 +27,10 @@ pub inputs_step : (params : List Param) (t : List Node) (n i : ℕ) (d : Param) 
     (inputs_from params (n + 1) (drop (i + 1) params))).table
 inputs_step params t n i d h = rw (drop_more params i d h)
     (all_made_table t (param_forms params n (get_or params i d)) (inputs_from params (n + 1) (drop (i + 1) params)))
+
+-- the operand with this number is the next one
+pub operands_step : (params : List Param) (values : List ℕ) (t : List Node) (os : List Operand) (i : ℕ) (d : Operand)
+    → i < length os
+    → operands_made params values t (drop i os)
+    ≡ operands_made params values t (get_or os i d ∷ drop (i + 1) os)
+operands_step params values t os i d h = ap (operands_made params values t) (drop_more os i d h)

@@ -25,7 +25,7 @@ use Rattle.terms.specs.Tables.{node_at, IsTable}
 use Rattle.terms.specs.Forms.{FormFits}
 use Rattle.terms.specs.Grown.{IsGrown}
 use Rattle.term_store.specs.Interning.{AllMade, made_all}
-use Rattle.symbolic_values.specs.Fitting.{AreNodesOf, AreOperandNodes, IsNodeOf, IsProgramForm}
+use Rattle.symbolic_values.specs.Fitting.{AreNodesOf, AreOperandNodes, IsNextOp, IsNodeOf, IsProgramForm}
 use Rattle.symbolic_values.specs.Sources.{and_op, input_form, inputs_from, op_made, operand_made, operands_made}
 use Rattle.symbolic_values.specs.Sources.{param_forms, results_made, source_made, start_forms}
 use Rattle.symbolic_values.proofs.Growing.{Grows, all_made_are, all_made_grows, grows_more, grows_not, grows_on}
@@ -171,6 +171,17 @@ operand_nodes_of ps bits t ns op is are =
           (get_or-map (is_bit_by ps bits) op.args 0 (operands.Literal 0) false (omega (arith, is.arguments, some))
           ∙ is.bit e);
     }
+
+-- the same, behind what stands before the operation
+pub next_nodes : (ps : List Param) → AllByRecursion IsParam ps → (t : List Node) (values : List ℕ) (op : Op)
+    → IsNextOp ps t values op
+    → AreOperandNodes (operands_made ps values t op.args).table op.kind
+    (slice_index (operands_made ps values t op.args).numbers 0)
+    (slice_index (operands_made ps values t op.args).numbers 1)
+    (slice_index (operands_made ps values t op.args).numbers 2)
+next_nodes ps params t values op n = let args = operands_made ps values t op.args in
+    operand_nodes_of ps n.bits args.table args.numbers op n.legal
+    (operands_nodes ps params values n.bits t n.is_table n.grown n.nodes op.args n.legal.reads)
 
 module _ (ps : List Param) (params : AllByRecursion IsParam ps) (values : List ℕ) (bits : List Bool)
     (t : List Node) (table : IsTable t) (grown : IsGrown (IsProgramForm ps) t) (op : Op) (is : IsOp ps bits op) where
