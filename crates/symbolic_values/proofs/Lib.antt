@@ -4,7 +4,7 @@ pub mod ResultRows
 pub mod Growing
 pub mod SourceRows
 pub mod SourceTables
-pub mod SourceNodes
+pub mod ProgramNodes
 pub mod SourceStarts
 pub mod RowValues
 pub mod SourceValues

@@ -19,7 +19,7 @@ use Rattle.word_program.specs.Accepted.{IsAccepted, IsOutputWord}
 use Rattle.terms.specs.Meaning.{IsSound, IsValuation, Start}
 use Rattle.symbolic_values.specs.Sources.{source_made, source_outputs}
 use Rattle.symbolic_values.proofs.SourceRows.{one_if}
-use Rattle.symbolic_values.proofs.SourceNodes.{many_nodes, value_node}
+use Rattle.symbolic_values.proofs.ProgramNodes.{many_nodes, value_node}
 use Rattle.symbolic_values.proofs.SourceValues.{source_words}
 
 -- ---- the value that goes to an output word

@@ -28,7 +28,7 @@ use Rattle.symbolic_values.proofs.SourceRows.{row_grows}
 use Rattle.symbolic_values.proofs.SourceTables.{AreSourced, as_many_nodes, bounds_word, operand_grows, operand_nodes_of}
 use Rattle.symbolic_values.proofs.SourceTables.{operands_grow, operands_nodes, ops_grow, some_operand, step_grows}
 use Rattle.symbolic_values.proofs.SourceTables.{step_sourced}
-use Rattle.symbolic_values.proofs.SourceNodes.{at_start, many_nodes, start_sourced}
+use Rattle.symbolic_values.proofs.ProgramNodes.{at_start, many_nodes, start_sourced}
 use Rattle.symbolic_values.proofs.RowValues.{IsValued, row_values, valued_front}
 
 module _ (ps : List Param) (params : AllByRecursion IsParam ps) (inputs : List ℕ)

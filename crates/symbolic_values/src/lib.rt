@@ -5,6 +5,8 @@ mod forms;
 mod inputs;
 mod operands;
 mod results;
+mod source_nodes;
 mod touch;
 
+pub use source_nodes::{SourceNodes, source};
 pub use touch::Touch;

@@ -70,7 +70,7 @@ fn operand_nodes(
 
 /// Makes the nodes of an operation's results, and puts their numbers behind those of the values so far.
 #[tactic(auto, unfolding(crate::specs::Sources::op_made))]
-fn push_op(
+pub fn push_op(
     alloc: Global,
     store: &mut Store,
     params: &[Param],

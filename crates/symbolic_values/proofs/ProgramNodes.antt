@@ -18,11 +18,11 @@ use Rattle.terms.specs.declared.nodes.Form.{Form}
 use Rattle.terms.specs.Tables.{node_at, IsTable, Prefix}
 use Rattle.terms.specs.Grown.{IsGrown}
 use Rattle.term_store.specs.Interning.{AllMade, made_all}
-use Rattle.symbolic_values.specs.Fitting.{AreNodesOf, IsNodeOf, IsProgramForm}
-use Rattle.symbolic_values.specs.Sources.{source_made, start_forms}
+use Rattle.symbolic_values.specs.Fitting.{AreNodesOf, IsNextOp, IsNodeOf, IsProgramForm}
+use Rattle.symbolic_values.specs.Sources.{and_op, source_made, start_forms}
 use Rattle.symbolic_values.proofs.Growing.{Grows, all_made_grows, grows_on}
 use Rattle.symbolic_values.proofs.SourceTables.{AreSourced, as_many_nodes, few_start_forms, node_of_number, ops_grow}
-use Rattle.symbolic_values.proofs.SourceTables.{ops_sourced, start_forms_fit, start_forms_have}
+use Rattle.symbolic_values.proofs.SourceTables.{ops_sourced, start_forms_fit, start_forms_have, step_grows, step_sourced}
 
 -- ---- the start
 
@@ -127,3 +127,28 @@ value_node program accepted n h =
     let many = many_bits program accepted in
     node_of_number (source_made program).table (bits_of program.params program.ops) (source_made program).numbers
     (source_sourced program accepted).nodes n (omega arith)
+
+-- ---- along the operations
+
+-- what stands before the operations that are left
+pub record IsBehind (params : List Param) (m : AllMade) (ops : List Op) : Type 0 where
+  pub bits : List Bool
+  pub legal : AreOps params bits ops
+  pub so : AreSourced params bits m
+
+pub behind_first : (params : List Param) (m : AllMade) (op : Op) (ops : List Op) → IsBehind params m (op ∷ ops)
+    → IsNextOp params m.table m.numbers op
+behind_first params m op ops b =
+    record { bits = b.bits; legal = b.legal.0; is_table = b.so.table; grown = b.so.grown; nodes = b.so.nodes }
+
+pub behind_next : (params : List Param) → AllByRecursion IsParam params → (m : AllMade) (op : Op) (ops : List Op)
+    → IsBehind params m (op ∷ ops) → IsBehind params (and_op params m op) ops
+behind_next params all m op ops b = record {
+  bits = b.bits ++ op_bits params b.bits op;
+  legal = b.legal.1;
+  so = step_sourced params all b.bits m op b.legal.0 b.so;
+}
+
+pub behind_few : (params : List Param) → AllByRecursion IsParam params → (m : AllMade) (op : Op) (ops : List Op)
+    → IsBehind params m (op ∷ ops) → length (and_op params m op).table ≤ length m.table + 6
+behind_few params all m op ops b = (step_grows params all b.bits m op b.legal.0 b.so).few
