@@ -13,11 +13,11 @@ use Rattle.word_program.specs.declared.parameter.Param.{Param}
 use Rattle.word_program.specs.declared.operation.Target.{Target}
 use Rattle.word_program.specs.declared.operation.Target.TheVariants as targets
 use Rattle.word_program.specs.Program.{Source}
-use Rattle.word_program.specs.Values.{AreWithin, input_bounds, input_word, is_at, is_output, output_count, outputs}
+use Rattle.word_program.specs.Values.{is_at, is_output, output_count, outputs}
 use Rattle.word_program.specs.Values.{outputs_from, stored_word, targets_of, values_of}
 use Rattle.word_program.specs.Accepted.{IsAccepted, IsOutputWord}
-use Rattle.terms.specs.Meaning.{IsSound, IsValuation, Start}
-use Rattle.symbolic_values.specs.Sources.{source_made, source_outputs}
+use Rattle.terms.specs.Meaning.{Start}
+use Rattle.symbolic_values.specs.Sources.{IsRunOn, source_made, source_outputs}
 use Rattle.symbolic_values.proofs.SourceRows.{one_if}
 use Rattle.symbolic_values.proofs.ProgramNodes.{many_nodes, value_node}
 use Rattle.symbolic_values.proofs.SourceValues.{source_words}
@@ -166,13 +166,10 @@ outputs_inside program accepted = outputs_below (targets_of program.ops) (source
     (λ n h. (value_node program accepted n h).inside) 0 program.params (written_all program accepted)
 
 -- they have the program's output words
-pub source_outputs_values : (program : Source) → IsAccepted program → (inputs : List ℕ)
-    → AreWithin inputs (input_bounds program.params) → (start : Start) (val : ℕ → ℕ)
-    → ((param word : ℕ) → start.inputs param word ≡ input_word program.params inputs param word)
-    → IsValuation start (source_made program).table val → IsSound (source_made program).table val
-    → map val (source_outputs program) ≡ outputs program inputs
+pub outputs_words : (program : Source) (inputs : List ℕ) (start : Start) (val : ℕ → ℕ) → IsAccepted program
+    → IsRunOn program inputs start val → map val (source_outputs program) ≡ outputs program inputs
 unfolding source_outputs
-source_outputs_values program accepted inputs within start val given is sound =
+outputs_words program inputs start val accepted run =
     outputs_values (targets_of program.ops) (source_made program).numbers (many_nodes program accepted) val
-    (values_of program inputs) (source_words program accepted inputs within start val given is sound) 0 program.params
+    (values_of program inputs) (source_words program inputs start val accepted run) 0 program.params
     (written_all program accepted)

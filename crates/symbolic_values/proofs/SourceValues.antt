@@ -18,11 +18,11 @@ use Rattle.terms.specs.declared.nodes.Form.{Form}
 use Rattle.terms.specs.declared.nodes.Form.TheVariants as forms
 use Rattle.terms.specs.Tables.{IsTable}
 use Rattle.terms.specs.Grown.{IsGrown}
-use Rattle.terms.specs.Meaning.{IsSound, IsValuation, Start}
+use Rattle.terms.specs.Meaning.{Start}
 use Rattle.term_store.specs.Interning.{AllMade}
 use Rattle.symbolic_values.specs.Fitting.{AreNodesOf, IsProgramForm}
 use Rattle.symbolic_values.specs.Sources.{and_op, input_form, op_made, operand_made, operands_made, results_made}
-use Rattle.symbolic_values.specs.Sources.{source_made}
+use Rattle.symbolic_values.specs.Sources.{IsRunOn, source_made}
 use Rattle.symbolic_values.proofs.Growing.{all_made_values, nodes_later}
 use Rattle.symbolic_values.proofs.SourceRows.{row_grows}
 use Rattle.symbolic_values.proofs.SourceTables.{AreSourced, as_many_nodes, bounds_word, operand_grows, operand_nodes_of}
@@ -112,20 +112,20 @@ module _ (ps : List Param) (params : AllByRecursion IsParam ps) (inputs : List �
 
 -- ---- programs
 
-module _ (program : Source) (accepted : IsAccepted program) (inputs : List ℕ)
-    (within : AreWithin inputs (input_bounds program.params)) (start : Start) (val : ℕ → ℕ)
-    (given : (param word : ℕ) → start.inputs param word ≡ input_word program.params inputs param word)
-    (is : IsValuation start (source_made program).table val) (sound : IsSound (source_made program).table val) where
-  -- the words of the values' nodes in order
-  pub source_words : map val (source_made program).numbers ≡ values_of program inputs
-  unfolding source_made
-  source_words = ops_values program.params accepted.params inputs within start val given program.ops []
-      (at_start program.params) accepted.ops (start_sourced program.params accepted.params)
-      (record { valuation = is; sound = sound })
+-- the words of the values' nodes, in order
+pub source_words : (program : Source) (inputs : List ℕ) (start : Start) (val : ℕ → ℕ) → IsAccepted program
+    → IsRunOn program inputs start val → map val (source_made program).numbers ≡ values_of program inputs
+unfolding source_made
+source_words program inputs start val accepted run =
+    ops_values program.params accepted.params inputs run.within start val run.given program.ops []
+    (at_start program.params) accepted.ops (start_sourced program.params accepted.params)
+    (record { valuation = run.valuation; sound = run.sound })
 
-  pub source_values : (n : ℕ) → n < length (targets_of program.ops)
-      → val (slice_index (source_made program).numbers n) ≡ slice_index (values_of program inputs) n
-  source_values n h =
-      let many = many_nodes program accepted in
-      sym (get_or-map val (source_made program).numbers n 0 0 (omega arith))
-      ∙ ap (λ (xs : List ℕ). slice_index xs n) source_words
+-- the word of a value's node
+pub source_values : (program : Source) (inputs : List ℕ) (start : Start) (val : ℕ → ℕ) → IsAccepted program
+    → IsRunOn program inputs start val → (n : ℕ) → n < length (targets_of program.ops)
+    → val (slice_index (source_made program).numbers n) ≡ slice_index (values_of program inputs) n
+source_values program inputs start val accepted run n h =
+    let many = many_nodes program accepted in
+    sym (get_or-map val (source_made program).numbers n 0 0 (omega arith))
+    ∙ ap (λ (xs : List ℕ). slice_index xs n) (source_words program inputs start val accepted run)

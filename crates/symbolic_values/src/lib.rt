@@ -3,10 +3,12 @@
 
 mod forms;
 mod inputs;
+mod laws;
 mod operands;
 mod results;
 mod source_nodes;
 mod touch;
 
+pub use laws::source_nodes_have_values;
 pub use source_nodes::{SourceNodes, source};
 pub use touch::Touch;
