@@ -1,2 +1,21 @@
 -- The lemmas of this crate, one subject a file.
+pub mod BitValues
+pub mod Bits
+pub mod BorrowValues
+pub mod CarryValues
+pub mod Cases
+pub mod ConstantValues
+pub mod FormWords
+pub mod Highs
+pub mod Joined
+pub mod NormalForms
+pub mod NumberLists
+pub mod NumberSums
+pub mod ProductValues
+pub mod RuleFits
 pub mod Same
+pub mod SelectTurns
+pub mod SelectValues
+pub mod SumIntervals
+pub mod SumValues
+pub mod SumsFit

@@ -1,9 +1,9 @@
 -- `==` of nodes decides equality.
-use Rattle.std.proofs.Common.{◌≡◌, ℕ, Bool, true, false, List, [], ◌∷◌, refl, sym, ap, eqb, nat_eq, ◌&&◌, rules, arith}
+use Rattle.std.proofs.Common.{◌≡◌, ℕ, List, refl, ap, nat_eq}
 use Rattle.std.specs.Bool.{Decides}
 use Rattle.std.specs.Cmp.Lexicographic.{pointwise}
 use Rattle.std.proofs.lemmas.Bool.{false≢true}
-use Rattle.std.proofs.lemmas.Bool.Decides.{Decides-eqb, Decides-and, Decides-like, nat_tests}
+use Rattle.std.proofs.lemmas.Bool.Decides.{Decides-eqb, Decides-and, Decides-like}
 use Rattle.std.proofs.lemmas.Slice.Eq.{slice_eq-Decides}
 use Rattle.terms.specs.declared.lists.Term.{Term}
 use Rattle.terms.specs.declared.nodes.Node.{Node}

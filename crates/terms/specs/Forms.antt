@@ -1,8 +1,6 @@
 -- Forms: what the rules turn into a number of the table, or into a node to put there.
-use Rattle.std.specs.Prelude.{◌≡◌, ℕ, ◌+◌, ◌^◌, ◌<◌, ◌≤◌, Bool, nat_lt, List, [], ◌∷◌, length, count_by}
-use Rattle.terms.specs.declared.lists.Term.{Term}
+use Rattle.std.specs.Prelude.{ℕ, ◌^◌, ◌<◌, ◌≤◌, Bool, nat_lt, List, length, count_by}
 use Rattle.terms.specs.declared.nodes.Node.{Node}
-use Rattle.terms.specs.declared.nodes.NodeKind.{NodeKind}
 use Rattle.terms.specs.declared.nodes.Form.{Form}
 use Rattle.terms.specs.declared.nodes.Form.TheVariants as forms
 use Rattle.terms.specs.declared.nodes.Built.{Built}

@@ -5,3 +5,4 @@ pub mod Meaning
 pub mod Sums
 pub mod Rules
 pub mod Grown
+pub mod Joining

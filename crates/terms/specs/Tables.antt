@@ -1,5 +1,5 @@
 -- Tables of nodes. A node is numbered by its place in the table, and refers to nodes of smaller numbers alone.
-use Rattle.std.specs.Prelude.{◌≡◌, ◌≢◌, ℕ, ◌<◌, List, [], ◌∷◌, ◌++◌, length, Option, Some, None, slice_index_or}
+use Rattle.std.specs.Prelude.{◌≡◌, ◌≢◌, ℕ, ◌<◌, List, ◌++◌, length, Option, Some, None, slice_index_or}
 use Rattle.std.specs.List.{All}
 use Rattle.terms.specs.declared.lists.Term.{Term}
 use Rattle.terms.specs.declared.nodes.Node.{Node}

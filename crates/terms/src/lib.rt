@@ -5,9 +5,18 @@
 //! form and an interval that holds this value, in every table whose nodes are sound.
 #![tactic(auto)]
 
+mod bitwise;
+mod borrow;
+mod carry;
+mod constants;
 mod lists;
 mod nodes;
+mod numbers;
+mod products;
 mod rules;
+mod select;
+mod sum_interval;
+mod sums;
 
 pub use lists::{Numbers, Term, Terms};
 pub use nodes::{Built, Form, Node, NodeKind, Nodes, is_same};

@@ -77,6 +77,7 @@ impl PartialEq for Terms {
 
     ghost use Rattle.std.specs.Cmp.Lexicographic.{lists_per};
     ghost use Rattle.terms.specs.contracts.lists.TermPartialEq.TheImpl.Laws.{laws-law};
+
     ghost laws = { lists_per laws-law };
 
     fn eq(&self, other: &Terms) -> bool {

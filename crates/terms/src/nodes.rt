@@ -58,11 +58,23 @@ impl Clone for NodeKind {
         match self {
             NodeKind::Const(v) => Ok(NodeKind::Const(*v)),
             NodeKind::Start(reg) => Ok(NodeKind::Start(*reg)),
-            NodeKind::In { param, word } => Ok(NodeKind::In { param: *param, word: *word }),
-            NodeKind::Sum { k, terms } => Ok(NodeKind::Sum { k: *k, terms: terms.clone()? }),
-            NodeKind::Wide { k, terms } => Ok(NodeKind::Wide { k: *k, terms: terms.clone()? }),
+            NodeKind::In { param, word } => Ok(NodeKind::In {
+                param: *param,
+                word: *word,
+            }),
+            NodeKind::Sum { k, terms } => Ok(NodeKind::Sum {
+                k: *k,
+                terms: terms.clone()?,
+            }),
+            NodeKind::Wide { k, terms } => Ok(NodeKind::Wide {
+                k: *k,
+                terms: terms.clone()?,
+            }),
             NodeKind::Carry(list) => Ok(NodeKind::Carry(list.clone()?)),
-            NodeKind::Borrow { a, list } => Ok(NodeKind::Borrow { a: *a, list: list.clone()? }),
+            NodeKind::Borrow { a, list } => Ok(NodeKind::Borrow {
+                a: *a,
+                list: list.clone()?,
+            }),
             NodeKind::Zero(x) => Ok(NodeKind::Zero(*x)),
             NodeKind::MulLo(a, b) => Ok(NodeKind::MulLo(*a, *b)),
             NodeKind::MulHi(a, b) => Ok(NodeKind::MulHi(*a, *b)),
@@ -70,7 +82,11 @@ impl Clone for NodeKind {
             NodeKind::Or(a, b) => Ok(NodeKind::Or(*a, *b)),
             NodeKind::Xor(a, b) => Ok(NodeKind::Xor(*a, *b)),
             NodeKind::Shr { x, k } => Ok(NodeKind::Shr { x: *x, k: *k }),
-            NodeKind::Select { c, x, y } => Ok(NodeKind::Select { c: *c, x: *x, y: *y }),
+            NodeKind::Select { c, x, y } => Ok(NodeKind::Select {
+                c: *c,
+                x: *x,
+                y: *y,
+            }),
             NodeKind::SetB { v, b } => Ok(NodeKind::SetB { v: *v, b: *b }),
         }
     }
@@ -80,7 +96,11 @@ impl Clone for Node {
     ghost is_clone = { λ a b. b ≡ a };
 
     fn clone(&self) -> Result<Node, AllocError> {
-        Ok(Node { kind: self.kind.clone()?, low: self.low, high: self.high })
+        Ok(Node {
+            kind: self.kind.clone()?,
+            low: self.low,
+            high: self.high,
+        })
     }
 }
 
@@ -94,6 +114,7 @@ pub fn is_same(a: &Node, b: &Node) -> bool
 /// A table of nodes: distinct ones, each of which refers to smaller numbers alone. Contracts see the list of them.
 pub trait Nodes {
     ghost use Rattle.terms.specs.declared.nodes.Node.{Node};
+
     ghost nodes: { Self → List Node };
 
     /// The node with this number, counted from 0.
@@ -116,13 +137,24 @@ pub enum Form {
     /// What the register with this number, below 16, holds at the start.
     Start(u8),
     /// An input word, and its bounds.
-    In { param: u8, word: u8, low: u64, high: u64 },
+    In {
+        param: u8,
+        word: u8,
+        low: u64,
+        high: u64,
+    },
     /// `k` and at most 16 terms added up modulo 2^64.
-    Lin { k: u64, terms: Terms },
+    Lin {
+        k: u64,
+        terms: Terms,
+    },
     /// The carry of two or three nodes, of which at most two may be more than 1.
     Carry(Numbers),
     /// 1 where `a` is below the sum of one or two nodes, else 0.
-    Borrow { a: u32, list: Numbers },
+    Borrow {
+        a: u32,
+        list: Numbers,
+    },
     /// 1 where the node is 0, else 0.
     Zero(u32),
     /// The low word of a product.
@@ -136,11 +168,21 @@ pub enum Form {
     /// The bits that one of the two has.
     Xor(u32, u32),
     /// A word shifted to the right by `k` bits, from 1 to 63.
-    Shr { x: u32, k: u8 },
+    Shr {
+        x: u32,
+        k: u8,
+    },
     /// `x` where `c` is 0, else `y`.
-    Select { c: u32, x: u32, y: u32 },
+    Select {
+        c: u32,
+        x: u32,
+        y: u32,
+    },
     /// `v` with the low byte of `b` in the place of its own.
-    SetB { v: u32, b: u32 },
+    SetB {
+        v: u32,
+        b: u32,
+    },
 }
 
 /// What is made of a form.

@@ -1,5 +1,4 @@
 -- Equality of nodes.
-use Rattle.std.proofs.Common.{sym, subst, ◌≡◌, IsTrue, Bool, ◌↔◌}
 use Rattle.std.proofs.lemmas.Bool.Decides.{Decides-at}
 use Rattle.terms.proofs.Same.{Node-Decides}
 use Rattle.terms.proofs.nodes.is_same.Goals as goal
