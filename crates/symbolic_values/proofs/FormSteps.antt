@@ -13,11 +13,11 @@ use Rattle.terms.specs.declared.nodes.Form.TheVariants as forms
 use Rattle.symbolic_values.specs.Sources.{inputs_from, operands_made, param_forms, start_forms}
 use Rattle.word_program.specs.Accepted.{IsParam}
 use Rattle.symbolic_values.specs.Fitting.{IsProgramForm}
-use Rattle.symbolic_values.proofs.Made.{made_most}
 use Rattle.symbolic_values.proofs.Growing.{Grows, grows_more}
 use Rattle.symbolic_values.proofs.SourceTables.{few_start_forms}
 use Rattle.symbolic_values.proofs.ProgramNodes.{start_grows}
 use Rattle.symbolic_values.proofs.SourceStarts.{all_made_table}
+use Rattle.term_store.proofs.Made.{made_most}
 
 range_step : (a e : ℕ) → a < e → range_with_len a (e - a) ≡ a ∷ range_with_len (a + 1) (e - (a + 1))
 range_step a e h = let n : e - a ≡ suc (e - (a + 1)) = omega arith in rw n refl

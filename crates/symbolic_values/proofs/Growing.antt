@@ -11,9 +11,11 @@ use Rattle.terms.specs.Grown.{IsGrown}
 use Rattle.terms.specs.Meaning.{Admits, IsSound, IsValuation, Start, form_value}
 use Rattle.term_store.specs.Interning.{AllMade, made, made_all}
 use Rattle.symbolic_values.specs.Fitting.{AreNodesOf, IsNodeOf}
-use Rattle.symbolic_values.proofs.Made.{at_front, fits_later, made_below, made_low, made_grown, made_most, made_prefix}
-use Rattle.symbolic_values.proofs.Made.{made_table, made_value, prefix_length, prefix_refl, prefix_trans, sound_front}
-use Rattle.symbolic_values.proofs.Made.{valuation_front, MakesBit}
+use Rattle.term_store.proofs.Prefixes.{at_front, fits_later, prefix_length, prefix_refl, prefix_trans, sound_front, valuation_front}
+use Rattle.term_store.proofs.Made.{made_most, made_prefix}
+use Rattle.term_store.proofs.Growth.{made_grown}
+use Rattle.symbolic_values.proofs.Made.{made_below, made_table, made_value}
+use Rattle.symbolic_values.proofs.LowNodes.{MakesBit, made_low}
 
 -- ---- nodes in longer tables
 
@@ -95,7 +97,7 @@ made_is : (P : Form → Type 0) (t : List Node) (f : Form) (told : Bool) → IsT
     → (told ≡ true → MakesBit t f) → IsNodeOf (made t f).table told (made t f).number
 made_is P t f told table grown fits bit = record {
   inside = made_below t f table fits;
-  bit = λ e. made_low P t f table grown fits (bit e);
+  bit = λ e. made_low P t f grown (bit e);
 }
 
 -- ---- many forms

@@ -1,7 +1,9 @@
 -- The lemmas of this crate, one subject a file.
 pub mod Made
-pub mod ResultRows
+pub mod NeatNodes
+pub mod LowNodes
 pub mod Growing
+pub mod ResultRows
 pub mod SourceRows
 pub mod SourceTables
 pub mod ProgramNodes

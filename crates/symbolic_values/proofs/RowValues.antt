@@ -23,11 +23,11 @@ use Rattle.symbolic_values.specs.Cells.{term}
 use Rattle.symbolic_values.specs.Steps.{plus, minus, sum}
 use Rattle.symbolic_values.specs.Fitting.{AreOperandNodes, IsProgramForm}
 use Rattle.symbolic_values.specs.Sources.{results_made}
-use Rattle.symbolic_values.proofs.Made.{sound_front, valuation_front}
 use Rattle.symbolic_values.proofs.Growing.{Grows, all_made_grows, all_made_values}
 use Rattle.symbolic_values.proofs.ResultRows.{one_less, turned, two_less}
 use Rattle.symbolic_values.proofs.SourceRows.{are_shifts, borrow_fits, carry_fits, one_fits, row_grows, shifts}
 use Rattle.symbolic_values.proofs.SourceRows.{shifts_sum, three_fit, two_fit}
+use Rattle.term_store.proofs.Prefixes.{sound_front, valuation_front}
 
 module _ (ps : List Param) (start : Start) (val : ℕ → ℕ) where
   -- the table is valued, and its nodes are sound

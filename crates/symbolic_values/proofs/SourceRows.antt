@@ -25,8 +25,8 @@ use Rattle.symbolic_values.specs.Cells.{term}
 use Rattle.symbolic_values.specs.Steps.{plus, minus, sum}
 use Rattle.symbolic_values.specs.Fitting.{AreNodesOf, AreOperandNodes, IsNodeOf, IsProgramForm}
 use Rattle.symbolic_values.specs.Sources.{results_made}
-use Rattle.symbolic_values.proofs.Made.{MakesBit}
 use Rattle.symbolic_values.proofs.Growing.{Grows, all_made_are, all_made_grows, grows_more, grows_not, grows_on}
+use Rattle.symbolic_values.proofs.LowNodes.{MakesBit}
 
 -- ---- forms that fit
 

@@ -18,9 +18,11 @@ use Rattle.terms.specs.Tables.{node_at, IsTable, Prefix}
 use Rattle.terms.specs.Rules.{finished, normal_of}
 use Rattle.term_store.specs.Interning.{Interned, interned, made, made_all}
 use Rattle.symbolic_values.specs.Sources.{input_form, inputs_from, param_forms, source_made, start_forms}
-use Rattle.symbolic_values.proofs.Made.{made_again_plain, made_below, made_prefix, prefix_refl, prefix_trans}
 use Rattle.symbolic_values.proofs.SourceTables.{bounds_word}
 use Rattle.symbolic_values.proofs.ProgramNodes.{source_grows, source_table}
+use Rattle.term_store.proofs.Prefixes.{prefix_refl, prefix_trans}
+use Rattle.term_store.proofs.Made.{made_again_plain, made_prefix}
+use Rattle.symbolic_values.proofs.Made.{made_below}
 
 -- ---- forms made one after the other
 

@@ -15,10 +15,10 @@ use terms::{Form, Numbers, Term, Terms};
 #[tactic(
     auto,
     using(
-        crate::proofs::Made::prefix_refl,
-        crate::proofs::Made::made_prefix,
+        term_store::proofs::Prefixes::prefix_refl,
+        term_store::proofs::Made::made_prefix,
         crate::proofs::Made::made_below,
-        crate::proofs::Made::made_most
+        term_store::proofs::Made::made_most
     )
 )]
 pub fn make<T: Interner>(store: &mut T, form: Form) -> Result<u32, AllocError>

@@ -40,7 +40,7 @@ pub fn push_made(
 }
 
 /// Makes two forms, and puts their numbers at the end of a list.
-#[tactic(auto, using(crate::proofs::Made::made_most))]
+#[tactic(auto, using(term_store::proofs::Made::made_most))]
 fn push_two(
     store: &mut Store,
     numbers: &mut Vec<u32>,
@@ -118,7 +118,7 @@ fn push_borrow(
     using(
         crate::proofs::SourceRows::one_fits,
         crate::proofs::SourceRows::two_fit,
-        crate::proofs::Made::prefix_length
+        term_store::proofs::Prefixes::prefix_length
     )
 )]
 fn push_shifted(
