@@ -19,3 +19,16 @@ pub mod AllSteps
 pub mod AtStart
 pub mod StepTables
 pub mod Covered
+pub mod Made
+pub mod NeatNodes
+pub mod LowNodes
+pub mod Growing
+pub mod ResultRows
+pub mod SourceRows
+pub mod SourceTables
+pub mod ProgramNodes
+pub mod SourceStarts
+pub mod RowValues
+pub mod SourceValues
+pub mod SourceOutputs
+pub mod FormSteps
