@@ -1,1 +1,2 @@
 -- The lemmas of this crate, one subject a file.
+pub mod Forgetting

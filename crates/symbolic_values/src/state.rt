@@ -1,0 +1,159 @@
+ghost use Rattle.std.specs.Prelude.{◌≡◌, ◌*◌, ◌<◌, ◌≤◌, length, slice_get, slice_set, option_map, Some, None};
+ghost use Rattle.std.specs.Bool.{MatchBool};
+ghost use Rattle.x86_instr.specs.declared.listing.TheConstants.{MAX_FRAME_BYTES};
+ghost use Rattle.x86_meaning.specs.Start as areas;
+ghost use Rattle.symbolic_values.specs.Cells as cells;
+ghost use Rattle.symbolic_values.specs.Steps as steps;
+ghost use Rattle.symbolic_values.specs.Symbols as symbols;
+
+use crate::array::Array;
+use crate::touch::Touch;
+use std::alloc::Global;
+use std::marker::Model;
+use x86_instr::Reg;
+
+/// A symbolic state: which nodes stand in registers, flags and the memory, where that is known. Contracts see the
+/// record of these.
+#[derive(Drop)]
+pub struct SymState {
+    alloc: Global,
+    regs: [u32; 16],
+    cf: Option<u32>,
+    of: Option<u32>,
+    zf: Option<u32>,
+    arrays: Vec<Array>,
+    frame: Vec<Option<u32>>,
+    overlap: bool,
+    touch: Option<Touch>,
+}
+
+impl Model for SymState {
+    ghost use Rattle.std.specs.Prelude.{◌*◌, ◌≤◌, length};
+    ghost use Rattle.x86_instr.specs.declared.listing.TheConstants.{MAX_FRAME_BYTES};
+    ghost use Rattle.symbolic_values.specs.Symbols.{Symbols};
+
+    ghost Value = { Symbols };
+
+    ghost view = { λ s. record {
+        regs = s.regs;
+        cf = s.cf;
+        of = s.of;
+        zf = s.zf;
+        arrays = s.arrays.items;
+        frame = s.frame.items;
+        overlap = s.overlap;
+        touch = s.touch;
+    } };
+
+    ghost invariant = { λ s. 8 * length s.frame.items ≤ MAX_FRAME_BYTES };
+}
+
+impl SymState {
+    /// The allocator of the state's lists.
+    pub fn alloc(&self) -> Global {
+        self.alloc
+    }
+
+    /// The node of a register.
+    pub fn register(&self, reg: Reg) -> u32
+        ensures { result ≡ symbols.node_in self.now reg }
+    {
+        self.regs[usize::from(reg.number())]
+    }
+
+    /// The cell that the last step accessed.
+    pub fn last_touch(&self) -> Option<Touch>
+        ensures { result ≡ self.now.touch }
+    {
+        self.touch
+    }
+
+    /// The node of the carry flag, where it is known.
+    pub fn carry(&self) -> Option<u32>
+        ensures { result ≡ self.now.cf }
+    {
+        self.cf
+    }
+
+    /// Writes a register.
+    pub fn set_register(&mut self, reg: Reg, node: u32)
+        ensures { self.new ≡ symbols.with_node reg node self.old }
+    {
+        self.regs[usize::from(reg.number())] = node;
+    }
+
+    /// Writes a result, where there is a register for it.
+    pub fn write(&mut self, dst: Option<Reg>, node: u32)
+        ensures { self.new ≡ steps.write dst node self.old }
+    {
+        if let Some(reg) = dst {
+            self.set_register(reg, node);
+        }
+    }
+
+    /// Writes the flags.
+    pub fn set_flags(&mut self, cf: Option<u32>, of: Option<u32>, zf: Option<u32>)
+        ensures { self.new ≡ symbols.with_flags cf of zf self.old }
+    {
+        self.cf = cf;
+        self.of = of;
+        self.zf = zf;
+    }
+
+    /// Writes the carry flag.
+    pub fn set_carry(&mut self, cf: u32)
+        ensures { self.new ≡ symbols.with_flags (Some cf) self.old.of self.old.zf self.old }
+    {
+        self.cf = Some(cf);
+    }
+
+    /// Writes the last access.
+    pub fn set_touch(&mut self, touch: Option<Touch>)
+        ensures { self.new ≡ symbols.with_touch touch self.old }
+    {
+        self.touch = touch;
+    }
+
+    /// How many words the frame has.
+    pub fn frame_words(&self) -> usize
+        ensures count { result ≡ length self.now.frame }
+        ensures most { 8 * result ≤ MAX_FRAME_BYTES }
+    {
+        self.frame.len()
+    }
+
+    /// How many words the array of a parameter has, where there is such a parameter.
+    pub fn array_words(&self, param: usize) -> Option<usize>
+        ensures count { result ≡ option_map (λ array. length array.words) (slice_get self.now.arrays param) }
+    {
+        Some(self.arrays.get(param)?.len())
+    }
+
+    /// The node that is known to stand in a word of the frame.
+    pub fn frame_word(&self, word: usize) -> Option<u32>
+        ensures { result ≡ cells.known self.now.frame word }
+    {
+        match self.frame.get(word) {
+            Some(node) => *node,
+            None => None,
+        }
+    }
+
+    /// The node that is known to stand in a word of a parameter's array.
+    pub fn array_word(&self, param: usize, word: usize) -> Option<u32>
+        ensures { result ≡ cells.node_of self.now (areas.Array param) word }
+    {
+        match self.arrays.get(param) {
+            Some(array) => array.known(word),
+            None => None,
+        }
+    }
+
+    /// Puts a node into a word of the frame.
+    pub fn set_frame_word(&mut self, word: usize, node: u32)
+        requires { word < length self.now.frame }
+        ensures { self.new ≡ record self.old { frame = slice_set self.old.frame word (Some node) } }
+    {
+        self.frame[word] = Some(node);
+    }
+}
