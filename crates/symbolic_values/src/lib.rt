@@ -2,6 +2,7 @@
 #![tactic(auto)]
 
 mod array;
+mod cells;
 mod state;
 mod touch;
 

@@ -1,4 +1,8 @@
 ghost use Rattle.std.specs.Prelude.{◌≡◌, ◌*◌, ◌<◌, ◌≤◌, length, slice_get, slice_set, option_map, Some, None};
+ghost use Rattle.std.specs.Prelude.{IfSome, IsSomeAnd, false, map};
+ghost use Rattle.std.specs.Option.{option_map_or};
+ghost use Rattle.word_program.specs.Values as values;
+ghost use Rattle.base.specs.declared.limits.TheConstants.{MAX_ARRAY_WORDS};
 ghost use Rattle.std.specs.Bool.{MatchBool};
 ghost use Rattle.x86_instr.specs.declared.listing.TheConstants.{MAX_FRAME_BYTES};
 ghost use Rattle.x86_meaning.specs.Start as areas;
@@ -48,9 +52,18 @@ impl Model for SymState {
     ghost invariant = { λ s. 8 * length s.frame.items ≤ MAX_FRAME_BYTES };
 }
 
+/// Forgets the words of all inputs.
+fn forget_all(arrays: &mut [Array])
+    ensures { arrays.new ≡ map cells.forgotten arrays.old }
+{
+    for array in arrays.iter_mut() {
+        array.forget();
+    }
+}
+
 impl SymState {
     /// The allocator of the state's lists.
-    pub fn alloc(&self) -> Global {
+    pub(crate) fn alloc(&self) -> Global {
         self.alloc
     }
 
@@ -69,21 +82,21 @@ impl SymState {
     }
 
     /// The node of the carry flag, where it is known.
-    pub fn carry(&self) -> Option<u32>
+    pub(crate) fn carry(&self) -> Option<u32>
         ensures { result ≡ self.now.cf }
     {
         self.cf
     }
 
     /// Writes a register.
-    pub fn set_register(&mut self, reg: Reg, node: u32)
+    pub(crate) fn set_register(&mut self, reg: Reg, node: u32)
         ensures { self.new ≡ symbols.with_node reg node self.old }
     {
         self.regs[usize::from(reg.number())] = node;
     }
 
     /// Writes a result, where there is a register for it.
-    pub fn write(&mut self, dst: Option<Reg>, node: u32)
+    pub(crate) fn write(&mut self, dst: Option<Reg>, node: u32)
         ensures { self.new ≡ steps.write dst node self.old }
     {
         if let Some(reg) = dst {
@@ -92,7 +105,7 @@ impl SymState {
     }
 
     /// Writes the flags.
-    pub fn set_flags(&mut self, cf: Option<u32>, of: Option<u32>, zf: Option<u32>)
+    pub(crate) fn set_flags(&mut self, cf: Option<u32>, of: Option<u32>, zf: Option<u32>)
         ensures { self.new ≡ symbols.with_flags cf of zf self.old }
     {
         self.cf = cf;
@@ -101,21 +114,21 @@ impl SymState {
     }
 
     /// Writes the carry flag.
-    pub fn set_carry(&mut self, cf: u32)
+    pub(crate) fn set_carry(&mut self, cf: u32)
         ensures { self.new ≡ symbols.with_flags (Some cf) self.old.of self.old.zf self.old }
     {
         self.cf = Some(cf);
     }
 
     /// Writes the last access.
-    pub fn set_touch(&mut self, touch: Option<Touch>)
+    pub(crate) fn set_touch(&mut self, touch: Option<Touch>)
         ensures { self.new ≡ symbols.with_touch touch self.old }
     {
         self.touch = touch;
     }
 
     /// How many words the frame has.
-    pub fn frame_words(&self) -> usize
+    pub(crate) fn frame_words(&self) -> usize
         ensures count { result ≡ length self.now.frame }
         ensures most { 8 * result ≤ MAX_FRAME_BYTES }
     {
@@ -123,14 +136,15 @@ impl SymState {
     }
 
     /// How many words the array of a parameter has, where there is such a parameter.
-    pub fn array_words(&self, param: usize) -> Option<usize>
+    pub(crate) fn array_words(&self, param: usize) -> Option<usize>
         ensures count { result ≡ option_map (λ array. length array.words) (slice_get self.now.arrays param) }
+        ensures most { IfSome result (λ count. count ≤ MAX_ARRAY_WORDS) }
     {
         Some(self.arrays.get(param)?.len())
     }
 
     /// The node that is known to stand in a word of the frame.
-    pub fn frame_word(&self, word: usize) -> Option<u32>
+    pub(crate) fn frame_word(&self, word: usize) -> Option<u32>
         ensures { result ≡ cells.known self.now.frame word }
     {
         match self.frame.get(word) {
@@ -140,7 +154,7 @@ impl SymState {
     }
 
     /// The node that is known to stand in a word of a parameter's array.
-    pub fn array_word(&self, param: usize, word: usize) -> Option<u32>
+    pub(crate) fn array_word(&self, param: usize, word: usize) -> Option<u32>
         ensures { result ≡ cells.node_of self.now (areas.Array param) word }
     {
         match self.arrays.get(param) {
@@ -149,8 +163,37 @@ impl SymState {
         }
     }
 
+    /// Whether the array of a parameter is an output; false where there is no such parameter.
+    pub(crate) fn is_output(&self, param: usize) -> bool
+        ensures { result ≡ option_map_or (λ array. values.is_output array.role) (slice_get self.now.arrays param) false }
+    {
+        match self.arrays.get(param) {
+            Some(array) => array.is_output(),
+            None => false,
+        }
+    }
+
+    /// Puts a node into a word of a parameter's array.
+    pub(crate) fn set_array_word(&mut self, param: usize, word: usize, node: u32)
+        requires { IsSomeAnd (slice_get self.now.arrays param) (λ array. word < length array.words) }
+        ensures { IsSomeAnd (slice_get self.old.arrays param) (λ array.
+            self.new ≡ record self.old { arrays = slice_set self.old.arrays param (cells.with_word array word node) }) }
+    {
+        let array = &mut self.arrays[param];
+        array.set(word, node);
+    }
+
+    /// Forgets the words of inputs, where a store to an output may have changed them.
+    pub(crate) fn forget_inputs(&mut self)
+        ensures { self.new ≡ cells.after_output self.old }
+    {
+        if self.overlap {
+            forget_all(self.arrays.as_mut_slice());
+        }
+    }
+
     /// Puts a node into a word of the frame.
-    pub fn set_frame_word(&mut self, word: usize, node: u32)
+    pub(crate) fn set_frame_word(&mut self, word: usize, node: u32)
         requires { word < length self.now.frame }
         ensures { self.new ≡ record self.old { frame = slice_set self.old.frame word (Some node) } }
     {
