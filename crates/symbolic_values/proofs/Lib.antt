@@ -1,2 +1,4 @@
 -- The lemmas of this crate, one subject a file.
 pub mod Forgetting
+pub mod MadeLater
+pub mod FormsFit

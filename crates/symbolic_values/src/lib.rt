@@ -3,6 +3,7 @@
 
 mod array;
 mod cells;
+mod forms;
 mod state;
 mod touch;
 
