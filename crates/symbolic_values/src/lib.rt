@@ -4,8 +4,11 @@
 mod array;
 mod cells;
 mod forms;
+mod moved;
+mod rows;
 mod state;
 mod touch;
 
+pub use moved::Moved;
 pub use state::SymState;
 pub use touch::Touch;
