@@ -2,6 +2,7 @@
 #![tactic(auto)]
 
 mod array;
+mod binary;
 mod cells;
 mod forms;
 mod moved;
