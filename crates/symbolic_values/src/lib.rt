@@ -4,6 +4,7 @@
 mod array;
 mod binary;
 mod cells;
+mod fetching;
 mod forms;
 mod moved;
 mod rows;
