@@ -4,13 +4,17 @@ use Rattle.std.specs.Prelude.{slice_get, slice_set, option_map, option_and_then,
 use Rattle.base.specs.Options.{guard}
 use Rattle.word_program.specs.Values.{is_output}
 use Rattle.x86_instr.specs.declared.operand.Mem.{Mem}
+use Rattle.x86_instr.specs.declared.operand.Rm.{Rm}
+use Rattle.x86_instr.specs.declared.operand.Rm.TheVariants as rms
+use Rattle.x86_instr.specs.declared.operand.Src.{Src}
+use Rattle.x86_instr.specs.declared.operand.Src.TheVariants as srcs
 use Rattle.x86_meaning.specs.Start.{Area}
 use Rattle.x86_meaning.specs.Start as areas
 use Rattle.terms.specs.declared.nodes.Node.{Node}
 use Rattle.symbolic_values.specs.declared.touch.Touch.{Touch}
 use Rattle.symbolic_values.specs.Symbols.{Array, Symbols, with_touch}
 use Rattle.symbolic_values.specs.Cells.{after_output, cell_named, forgotten, stored, with_word}
-use Rattle.symbolic_values.specs.Steps.{fetched_cell}
+use Rattle.symbolic_values.specs.Steps.{fetched_cell, rm_fetched, src_fetched}
 
 pub cell_named_touch : (t : List Node) (y : Symbols) (touch : Option Touch) (n : ℕ)
     → cell_named t (with_touch touch y) n ≡ cell_named t y n
@@ -53,3 +57,14 @@ stored_touch (areas.Array param) word node y touch last = found_touch (slice_get
     (after_touch (record y { arrays = slice_set y.arrays param (with_word array word node) }) touch last))
 stored_touch areas.Frame word node y touch last = refl
 stored_touch areas.Return word node y touch last = refl
+
+pub src_fetched_touch : (t : List Node) (y : Symbols) (touch : Option Touch) (src : Src)
+    → src_fetched t (with_touch touch y) src ≡ src_fetched t y src
+src_fetched_touch t y touch (srcs.Reg r) = refl
+src_fetched_touch t y touch (srcs.Mem mem) = fetched_touch t y touch mem
+src_fetched_touch t y touch (srcs.Imm n) = refl
+
+pub rm_fetched_touch : (t : List Node) (y : Symbols) (touch : Option Touch) (src : Rm)
+    → rm_fetched t (with_touch touch y) src ≡ rm_fetched t y src
+rm_fetched_touch t y touch (rms.Reg r) = refl
+rm_fetched_touch t y touch (rms.Mem mem) = fetched_touch t y touch mem

@@ -9,7 +9,9 @@ mod forms;
 mod moved;
 mod rows;
 mod state;
+mod steps;
 mod touch;
+mod unary;
 
 pub use moved::Moved;
 pub use state::SymState;
