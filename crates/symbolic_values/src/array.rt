@@ -1,6 +1,7 @@
 ghost use Rattle.std.specs.Prelude.{◌≡◌, ◌<◌, ◌≤◌, length, map, None};
 ghost use Rattle.base.specs.declared.limits.TheConstants.{MAX_ARRAY_WORDS};
 ghost use Rattle.word_program.specs.Values as values;
+ghost use Rattle.symbolic_values.specs.Written.{output_words};
 ghost use Rattle.symbolic_values.specs.Cells.{forgotten, known, with_word};
 
 use std::marker::Model;
@@ -63,6 +64,17 @@ impl Array {
         match self.words.get(word) {
             Some(node) => *node,
             None => None,
+        }
+    }
+
+    /// The words of an output; none of an input.
+    pub fn output_words(&self) -> &[Option<u32>]
+        ensures { result.now ≡ output_words self.now }
+    {
+        if is_output(self.role) {
+            self.words.as_slice()
+        } else {
+            &[]
         }
     }
 

@@ -1,5 +1,7 @@
 ghost use Rattle.std.specs.Prelude.{◌≡◌, ◌*◌, ◌<◌, ◌≤◌, length, slice_get, slice_set, option_map, Some, None};
-ghost use Rattle.std.specs.Prelude.{IfSome, IsSomeAnd, false, map};
+ghost use Rattle.std.specs.List.{flat_map};
+ghost use Rattle.symbolic_values.specs.Written.{output_words, words_written};
+ghost use Rattle.std.specs.Prelude.{slice_index_or, IfSome, IsSomeAnd, false, map};
 ghost use Rattle.std.specs.Option.{option_map_or};
 ghost use Rattle.word_program.specs.Values as values;
 ghost use Rattle.base.specs.declared.limits.TheConstants.{MAX_ARRAY_WORDS};
@@ -61,6 +63,21 @@ fn forget_all(arrays: &mut [Array])
     }
 }
 
+/// The node of an output word, counted over all outputs, where it is known.
+fn written_in(arrays: &[Array], word: usize) -> Option<u32>
+    ensures { result ≡ slice_index_or (flat_map output_words arrays.now) word None }
+{
+    let mut left = word;
+    for array in arrays {
+        let words = array.output_words();
+        if left < words.len() {
+            return words[left];
+        }
+        left -= words.len();
+    }
+    None
+}
+
 impl SymState {
     /// The allocator of the state's lists.
     pub(crate) fn alloc(&self) -> Global {
@@ -72,6 +89,14 @@ impl SymState {
         ensures { result ≡ symbols.node_in self.now reg }
     {
         self.regs[usize::from(reg.number())]
+    }
+
+    /// The node of an output word, counted over all outputs in the order of the parameters, where a store to it is
+    /// known. None also where there is no such word.
+    pub fn written(&self, word: u32) -> Option<u32>
+        ensures { result ≡ slice_index_or (words_written self.now) word None }
+    {
+        written_in(self.arrays.as_slice(), word as usize)
     }
 
     /// The cell that the last step accessed.
