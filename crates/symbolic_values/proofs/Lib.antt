@@ -1,6 +1,6 @@
 -- The lemmas of this crate, one subject a file.
 pub mod Forgetting
-pub mod MadeLater
+pub mod Made
 pub mod StateFits
 pub mod Touches
 pub mod FormsFit

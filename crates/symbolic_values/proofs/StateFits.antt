@@ -10,7 +10,7 @@ use Rattle.terms.specs.Tables.{Prefix, node_at}
 use Rattle.symbolic_values.specs.Symbols.{Array, Symbols}
 use Rattle.symbolic_values.specs.Cells.{known, node_of}
 use Rattle.symbolic_values.specs.Fitting.{AreKnown, FitsTable, IsBit}
-use Rattle.symbolic_values.proofs.MadeLater.{at_front, prefix_length}
+use Rattle.symbolic_values.proofs.Made.{at_front, prefix_length}
 
 -- ---- words of the memory
 
@@ -37,9 +37,9 @@ node_of_below t y areas.Return word n fits e = absurd (cc)
 -- ---- longer tables
 
 bit_later : (t u : List Node) → Prefix t u → (n : ℕ) → IsBit t n → IsBit u n
-bit_later t u p n bit = let longer : length t ≤ length u = prefix_length t u p in
+bit_later t u p n bit = let longer : length t ≤ length u = prefix_length p in
     let inside : n < length t = bit.inside in
-    record { inside = omega arith; high = rw (at_front t u n p inside) bit.high }
+    record { inside = omega arith; high = rw (at_front n p inside) bit.high }
 
 flag_later : (t u : List Node) → Prefix t u → (flag : Option ℕ) → IfSome flag (IsBit t) → IfSome flag (IsBit u)
 flag_later t u p None h = h
@@ -60,7 +60,7 @@ arrays_later t u le (array ∷ arrays) k =
     (known_later (length t) (length u) le array.words k.0, arrays_later t u le arrays k.1)
 
 pub fits_longer : (t u : List Node) (y : Symbols) → Prefix t u → FitsTable t y → FitsTable u y
-fits_longer t u y p fits = let longer : length t ≤ length u = prefix_length t u p in record {
+fits_longer t u y p fits = let longer : length t ≤ length u = prefix_length p in record {
     sixteen = fits.sixteen;
     registers = All-weaker (λ n. n < length t) (λ n. n < length u) (λ n h. omega arith) y.regs fits.registers;
     cf = flag_later t u p y.cf fits.cf;

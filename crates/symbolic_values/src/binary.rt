@@ -55,7 +55,7 @@ impl SymState {
     #[tactic(
         auto,
         using(
-            crate::proofs::MadeLater::prefix_refl,
+            crate::proofs::Made::prefix_refl,
             crate::proofs::FormsFit::node_below,
             crate::proofs::FormsFit::sum3_fits,
             crate::proofs::FormsFit::carry3_fits
@@ -125,7 +125,7 @@ impl SymState {
     #[tactic(
         auto,
         using(
-            crate::proofs::MadeLater::prefix_refl,
+            crate::proofs::Made::prefix_refl,
             crate::proofs::FormsFit::node_below,
             crate::proofs::FormsFit::sum3_fits,
             crate::proofs::FormsFit::borrow2_fits

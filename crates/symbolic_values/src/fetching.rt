@@ -62,7 +62,7 @@ impl SymState {
     /// The node of a register or memory source.
     #[tactic(
         auto,
-        using(crate::proofs::MadeLater::prefix_refl, crate::proofs::FormsFit::node_below)
+        using(crate::proofs::Made::prefix_refl, crate::proofs::FormsFit::node_below)
     )]
     pub(crate) fn fetched_rm<T: Interner>(&self, store: &mut T, src: Rm) -> Result<Option<Word>, AllocError>
         requires room { length (T.nodes store.now) ≤ 2 ^ 32 - 8 }
@@ -86,7 +86,7 @@ impl SymState {
     #[tactic(
         auto,
         unfolding(crate::specs::Steps::fetched_const),
-        using(crate::proofs::MadeLater::prefix_refl, crate::proofs::FormsFit::node_below)
+        using(crate::proofs::Made::prefix_refl, crate::proofs::FormsFit::node_below)
     )]
     pub(crate) fn fetched_src<T: Interner>(&self, store: &mut T, src: Src) -> Result<Option<Word>, AllocError>
         requires room { length (T.nodes store.now) ≤ 2 ^ 32 - 8 }

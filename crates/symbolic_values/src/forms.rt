@@ -18,10 +18,10 @@ use x86_instr::{Index, Mem};
 #[tactic(
     auto,
     using(
-        crate::proofs::MadeLater::prefix_refl,
-        crate::proofs::MadeLater::made_prefix,
-        crate::proofs::MadeLater::made_below,
-        crate::proofs::MadeLater::made_most
+        crate::proofs::Made::prefix_refl,
+        crate::proofs::Made::made_prefix,
+        crate::proofs::Made::made_below,
+        crate::proofs::Made::made_most
     )
 )]
 pub fn make<T: Interner>(store: &mut T, form: Form) -> Result<u32, AllocError>

@@ -20,7 +20,7 @@ impl SymState {
     #[tactic(
         auto,
         unfolding(crate::specs::Steps::arithmetic),
-        using(crate::proofs::MadeLater::prefix_trans, crate::proofs::MadeLater::fits_later)
+        using(crate::proofs::Made::prefix_trans, crate::proofs::Made::fits_later)
     )]
     pub(crate) fn arithmetic<T: Interner>(
         &mut self,
@@ -52,7 +52,7 @@ impl SymState {
     #[tactic(
         auto,
         unfolding(crate::specs::Steps::logic),
-        using(crate::proofs::MadeLater::prefix_trans, crate::proofs::MadeLater::fits_later)
+        using(crate::proofs::Made::prefix_trans, crate::proofs::Made::fits_later)
     )]
     pub(crate) fn logic<T: Interner>(
         &mut self,

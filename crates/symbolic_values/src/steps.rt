@@ -55,7 +55,7 @@ impl SymState {
     /// `lea`
     #[tactic(
         auto,
-        using(crate::proofs::MadeLater::prefix_refl, crate::proofs::FormsFit::address_fits)
+        using(crate::proofs::Made::prefix_refl, crate::proofs::FormsFit::address_fits)
     )]
     fn lea<T: Interner>(&mut self, store: &mut T, dst: Reg, mem: Mem) -> Result<Moved, AllocError>
         requires room { length (T.nodes store.now) ≤ 2 ^ 32 - 32 }
@@ -75,7 +75,7 @@ impl SymState {
     #[tactic(
         auto,
         using(
-            crate::proofs::MadeLater::prefix_trans,
+            crate::proofs::Made::prefix_trans,
             crate::proofs::StateFits::fits_longer,
             crate::proofs::Touches::src_fetched_touch
         )
@@ -117,7 +117,7 @@ impl SymState {
     #[tactic(
         auto,
         unfolding(crate::specs::Steps::step_of),
-        using(crate::proofs::MadeLater::prefix_refl)
+        using(crate::proofs::Made::prefix_refl)
     )]
     pub fn sym_step<T: Interner>(&mut self, store: &mut T, line: &Line) -> Result<Moved, AllocError>
         requires fits { FitsTable (T.nodes store.now) self.now }

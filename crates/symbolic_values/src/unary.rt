@@ -22,9 +22,9 @@ impl SymState {
         auto,
         unfolding(crate::specs::Steps::neg_step),
         using(
-            crate::proofs::MadeLater::prefix_refl,
-            crate::proofs::MadeLater::prefix_trans,
-            crate::proofs::MadeLater::prefix_length,
+            crate::proofs::Made::prefix_refl,
+            crate::proofs::Made::prefix_trans,
+            crate::proofs::Made::prefix_length,
             crate::proofs::FormsFit::node_below,
             crate::proofs::FormsFit::lin1_fits,
             crate::proofs::FormsFit::borrow1_fits
@@ -51,7 +51,7 @@ impl SymState {
     #[tactic(
         auto,
         using(
-            crate::proofs::MadeLater::prefix_refl,
+            crate::proofs::Made::prefix_refl,
             crate::proofs::FormsFit::node_below,
             crate::proofs::FormsFit::lin1_fits
         )
@@ -70,7 +70,7 @@ impl SymState {
     }
 
     /// An operation on one register: `neg` or `not`. It is stuck at the others.
-    #[tactic(auto, using(crate::proofs::MadeLater::prefix_refl))]
+    #[tactic(auto, using(crate::proofs::Made::prefix_refl))]
     pub(crate) fn unary<T: Interner>(&mut self, store: &mut T, op: Un, dst: Reg) -> Result<Moved, AllocError>
         requires room { length (T.nodes store.now) ≤ 2 ^ 32 - 9 }
         requires fits { FitsTable (T.nodes store.now) self.now }
