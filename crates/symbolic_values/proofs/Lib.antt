@@ -4,3 +4,6 @@ pub mod Made
 pub mod StateFits
 pub mod Touches
 pub mod FormsFit
+pub mod SourceStarts
+pub mod AtStart
+pub mod StartLemmas

@@ -1,0 +1,79 @@
+-- The state at the start over a table that begins with the program's nodes, and its making word by word.
+use Rattle.std.proofs.Common.{◌≡◌, ℕ, suc, ◌+◌, ◌<◌, ◌≤◌, Bool, true, false, List, [], ◌∷◌, ◌++◌, length, map, drop, get_or}
+use Rattle.std.proofs.Common.{replicate, Option, Some, None, refl, sym, ap, ◌∙◌, subst, zero-add, arith}
+use Rattle.std.specs.Prelude.{slice_get, IsSomeAnd, IsFalse, if◌then◌else◌, slice_set}
+use Rattle.std.specs.List.{AllByRecursion, range_with_len}
+use Rattle.std.proofs.lemmas.List.{drop_more}
+use Rattle.std.proofs.lemmas.List.FromFn.{map-range_with_len_more}
+use Rattle.std.proofs.lemmas.Option.{slice_get_within}
+use Rattle.word_program.specs.declared.operation.Operand.TheVariants as operands
+use Rattle.word_program.specs.declared.parameter.Param.{Param}
+use Rattle.word_program.specs.declared.parameter.Role.{Role}
+use Rattle.word_program.specs.declared.parameter.Role.TheVariants.{Output, InputArray, InputScalar}
+use Rattle.word_program.specs.Program.{Source}
+use Rattle.word_program.specs.Values.{is_output, is_scalar}
+use Rattle.word_program.specs.Accepted.{IsAccepted, IsOperand, IsParam}
+use Rattle.x86_instr.specs.Registers.{number_of}
+use Rattle.x86_meaning.specs.Start.{param_reg}
+use Rattle.terms.specs.declared.nodes.Node.{Node}
+use Rattle.terms.specs.Tables.{Prefix}
+use Rattle.term_store.specs.Interning.{Interned, made}
+use Rattle.symbolic_values.specs.Sources.{array_at_start, arrays_at_start, input_form, input_node, source_made}
+use Rattle.symbolic_values.specs.Sources.{symbols_at_start, with_scalars}
+use Rattle.symbolic_values.specs.Fitting.{FitsTable}
+use Rattle.symbolic_values.proofs.Made.{prefix_length}
+use Rattle.symbolic_values.proofs.SourceStarts.{StandsIn, input_there, source_starts}
+use Rattle.symbolic_values.proofs.AtStart.{IsInput, start_fits}
+
+-- ---- input words
+
+-- making the form of an input word again leaves the table as it is
+pub input_again : (program : Source) (u : List Node) (param word : ℕ) → IsAccepted program
+    → Prefix (source_made program).table u → IsInput program.params param word
+    → (made u (input_form program.params param word)).table ≡ u
+input_again program u param word accepted begins input =
+    let there = input_there program accepted param word input in
+    ap (λ (i : Interned). i.table) (there.found u begins)
+
+input_inside : (program : Source) (u : List Node) (param word : ℕ) → IsAccepted program
+    → Prefix (source_made program).table u → IsInput program.params param word
+    → input_node u program.params param word < length u
+input_inside program u param word accepted begins input =
+    let there = input_there program accepted param word input in
+    let inside : there.number < length (source_made program).table = there.inside in
+    let longer = prefix_length begins in
+    subst (λ n. n < length u) (sym (ap (λ (i : Interned). i.number) (there.found u begins))) (omega arith)
+
+-- ---- the whole state
+
+source_long : (program : Source) → IsAccepted program → 16 ≤ length (source_made program).table
+source_long program accepted =
+    slice_get_within (source_made program).table 15 _ (source_starts program accepted 15 (omega arith))
+
+pub fits_at_start : (program : Source) (u : List Node) (frame : ℕ) → IsAccepted program
+    → Prefix (source_made program).table u → FitsTable u (symbols_at_start u program frame)
+fits_at_start program u frame accepted begins =
+    let long = source_long program accepted in
+    let longer = prefix_length begins in
+    start_fits program accepted u (omega arith)
+    (λ param word input. input_inside program u param word accepted begins input) frame
+
+-- ---- word by word
+
+pub words_more : (f : ℕ → Option ℕ) (n : ℕ) → map f (range_with_len 0 (n + 1)) ≡ map f (range_with_len 0 n) ++ f n ∷ []
+words_more f n = map-range_with_len_more f 0 n n (zero-add n)
+
+-- ---- parameter by parameter
+
+-- the next parameter's array
+pub arrays_step : (t : List Node) (params : List Param) (n i : ℕ) (d : Param) → i < length params
+    → arrays_at_start t params n (drop i params)
+    ≡ array_at_start t params n (get_or params i d) ∷ arrays_at_start t params (n + 1) (drop (i + 1) params)
+arrays_step t params n i d h = rw (drop_more params i d h) refl
+
+-- the next parameter's register
+pub scalars_step : (t : List Node) (params : List Param) (n i : ℕ) (d : Param) (regs : List ℕ) → i < length params
+    → with_scalars t params n (drop i params) regs
+    ≡ with_scalars t params (n + 1) (drop (i + 1) params) (if is_scalar (get_or params i d).role then
+    slice_set regs (number_of (param_reg n)) (input_node t params n 0) else regs)
+scalars_step t params n i d regs h = rw (drop_more params i d h) refl

@@ -1,0 +1,66 @@
+//! The symbolic state at the start of a listing.
+
+ghost use Rattle.std.specs.Prelude.{◌≡◌, ℕ, ◌+◌, ◌-◌, ◌^◌, ◌/◌, ◌<◌, ◌≤◌, length, map, replicate, slice_get, Some, None, IfOk};
+ghost use Rattle.std.specs.Prelude.{OnOk, if◌then◌else◌, slice_set, IsFalse};
+ghost use Rattle.std.specs.List.{range_with_len};
+ghost use Rattle.word_program.specs.declared.operation.Operand.TheVariants as operands;
+ghost use Rattle.word_program.specs.Accepted.{IsOperand};
+ghost use Rattle.word_program.specs.Values as values;
+ghost use Rattle.x86_instr.specs.declared.listing.TheConstants.{MAX_FRAME_BYTES};
+ghost use Rattle.x86_instr.specs.Registers.{number_of};
+ghost use Rattle.x86_meaning.specs.Start as areas;
+ghost use Rattle.terms.specs.Tables.{Prefix};
+ghost use Rattle.symbolic_values.specs.Fitting.{FitsTable, HasShape};
+ghost use Rattle.symbolic_values.specs.Sources as sources;
+
+use crate::array::Array;
+use crate::cells::param_reg;
+use crate::inputs::input_form;
+use crate::state::SymState;
+use std::alloc::{AllocError, Global};
+use term_store::Interner;
+use word_program::{Param, Program, Role};
+
+/// The node of an input word, which the table has.
+#[tactic(auto, using(crate::proofs::StartLemmas::input_again))]
+fn input_node<T: Interner>(store: &mut T, program: &Program, param: u8, word: u8) -> Result<u32, AllocError>
+    requires room { length (T.nodes store.now) < 2 ^ 32 - 1 }
+    requires begins { Prefix (sources.source_made program.now).table (T.nodes store.now) }
+    requires input { IsOperand program.now.params 0 (operands.Input param word) }
+    ensures node { IfOk result (λ node. node ≡ sources.input_node (T.nodes store.old) program.now.params param word) }
+    ensures table { T.nodes store.new ≡ T.nodes store.old }
+{
+    store.make(input_form(program.params(), param, word))
+}
+
+/// The nodes of the first words of an input.
+#[tactic(auto, using(crate::proofs::StartLemmas::words_more))]
+fn input_words<T: Interner>(
+    alloc: Global,
+    store: &mut T,
+    program: &Program,
+    param: u8,
+    count: u8,
+) -> Result<Vec<Option<u32>>, AllocError>
+    requires room { length (T.nodes store.now) < 2 ^ 32 - 1 }
+    requires begins { Prefix (sources.source_made program.now).table (T.nodes store.now) }
+    requires inputs { (word : ℕ) → word < count → IsOperand program.now.params 0 (operands.Input param word) }
+    ensures words { IfOk result (λ words. words.items
+        ≡ map (λ word. Some (sources.input_node (T.nodes store.old) program.now.params param word))
+        (range_with_len 0 count)) }
+    ensures table { T.nodes store.new ≡ T.nodes store.old }
+{
+    let mut words = Vec::new(alloc);
+    for word in 0..count {
+        let node = input_node(store, program, param, word)?;
+        words.push(Some(node))?;
+    }
+    Ok(words)
+}
+
+/// So many unknown words.
+fn unknown_words(alloc: Global, count: usize) -> Result<Vec<Option<u32>>, AllocError>
+    ensures { IfOk result (λ words. words.items ≡ replicate count None) }
+{
+    Ok(vec![in alloc; None; count]?)
+}
