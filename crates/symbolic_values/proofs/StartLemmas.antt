@@ -1,10 +1,10 @@
 -- The state at the start over a table that begins with the program's nodes, and its making word by word.
-use Rattle.std.proofs.Common.{◌≡◌, ℕ, suc, ◌+◌, ◌<◌, ◌≤◌, Bool, true, false, List, [], ◌∷◌, ◌++◌, length, map, drop, get_or}
+use Rattle.std.proofs.Common.{◌≡◌, ℕ, zero, suc, ◌+◌, ◌<◌, ◌≤◌, Bool, true, false, List, [], ◌∷◌, ◌++◌, length, map, drop, get_or}
 use Rattle.std.proofs.Common.{replicate, Option, Some, None, refl, sym, ap, ◌∙◌, subst, zero-add, arith}
 use Rattle.std.specs.Prelude.{slice_get, IsSomeAnd, IsFalse, if◌then◌else◌, slice_set}
 use Rattle.std.specs.List.{AllByRecursion, range_with_len}
-use Rattle.std.proofs.lemmas.List.{drop_more}
-use Rattle.std.proofs.lemmas.List.FromFn.{map-range_with_len_more}
+use Rattle.std.proofs.lemmas.List.{drop_more, length-replicate}
+use Rattle.std.proofs.lemmas.List.FromFn.{length-map-range_with_len, map-range_with_len_more}
 use Rattle.std.proofs.lemmas.Option.{slice_get_within}
 use Rattle.word_program.specs.declared.operation.Operand.TheVariants as operands
 use Rattle.word_program.specs.declared.parameter.Param.{Param}
@@ -63,7 +63,29 @@ fits_at_start program u frame accepted begins =
 pub words_more : (f : ℕ → Option ℕ) (n : ℕ) → map f (range_with_len 0 (n + 1)) ≡ map f (range_with_len 0 n) ++ f n ∷ []
 words_more f n = map-range_with_len_more f 0 n n (zero-add n)
 
+pub few_unknown : (count : ℕ) → count ≤ 32 → length (replicate {A = Option ℕ} count None) ≤ 32
+few_unknown count few = omega (arith, length-replicate {A = Option ℕ} count None)
+
+pub few_inputs : (f : ℕ → Option ℕ) (count : ℕ) → count ≤ 32 → length (map f (range_with_len 0 count)) ≤ 32
+few_inputs f count few = omega (arith, length-map-range_with_len f 0 count)
+
 -- ---- parameter by parameter
+
+pub input_param : (params : List Param) (n word : ℕ) (p : Param) → slice_get params n ≡ Some p
+    → IsFalse (is_output p.role) → word < length p.bounds → IsInput params n word
+input_param params n word p e input h = rw e (input, h)
+
+pub param_at : (params : List Param) (i : ℕ) (d : Param) → AllByRecursion IsParam params → i < length params
+    → IsParam (get_or params i d)
+param_at [] i d all h = absurd (omega arith)
+param_at (p ∷ ps) zero d all h = all.0
+param_at (p ∷ ps) (suc i) d all h = param_at ps i d all.1 (omega arith)
+
+pub param_there : (params : List Param) (i n : ℕ) (d : Param) → n ≡ i → i < length params
+    → slice_get params n ≡ Some (get_or params i d)
+param_there [] i n d e h = absurd (omega arith)
+param_there (p ∷ ps) zero n d e h = rw e refl
+param_there (p ∷ ps) (suc i) n d e h = rw e (param_there ps i i d refl (omega arith))
 
 -- the next parameter's array
 pub arrays_step : (t : List Node) (params : List Param) (n i : ℕ) (d : Param) → i < length params

@@ -4,7 +4,8 @@ ghost use Rattle.std.specs.Prelude.{◌≡◌, ℕ, ◌+◌, ◌-◌, ◌^◌, �
 ghost use Rattle.std.specs.Prelude.{OnOk, if◌then◌else◌, slice_set, IsFalse};
 ghost use Rattle.std.specs.List.{range_with_len};
 ghost use Rattle.word_program.specs.declared.operation.Operand.TheVariants as operands;
-ghost use Rattle.word_program.specs.Accepted.{IsOperand};
+ghost use Rattle.word_program.specs.Accepted.{IsOperand, IsParam};
+ghost use Rattle.base.specs.declared.limits.TheConstants.{MAX_ARRAY_WORDS};
 ghost use Rattle.word_program.specs.Values as values;
 ghost use Rattle.x86_instr.specs.declared.listing.TheConstants.{MAX_FRAME_BYTES};
 ghost use Rattle.x86_instr.specs.Registers.{number_of};
@@ -63,4 +64,63 @@ fn unknown_words(alloc: Global, count: usize) -> Result<Vec<Option<u32>>, AllocE
     ensures { IfOk result (λ words. words.items ≡ replicate count None) }
 {
     Ok(vec![in alloc; None; count]?)
+}
+
+/// The words of a parameter's array.
+#[tactic(
+    auto,
+    using(
+        crate::proofs::StartLemmas::input_param,
+        crate::proofs::StartLemmas::few_unknown,
+        crate::proofs::StartLemmas::few_inputs
+    )
+)]
+fn start_words<T: Interner>(
+    alloc: Global,
+    store: &mut T,
+    program: &Program,
+    number: u8,
+    param: &Param,
+) -> Result<Vec<Option<u32>>, AllocError>
+    requires room { length (T.nodes store.now) < 2 ^ 32 - 1 }
+    requires begins { Prefix (sources.source_made program.now).table (T.nodes store.now) }
+    requires there { slice_get program.now.params number ≡ Some param.now }
+    requires param { IsParam param.now }
+    ensures words { IfOk result (λ words. words.items
+        ≡ (sources.array_at_start (T.nodes store.old) program.now.params number param.now).words) }
+    ensures most { IfOk result (λ words. length words.items ≤ MAX_ARRAY_WORDS) }
+    ensures table { T.nodes store.new ≡ T.nodes store.old }
+{
+    let count = param.bounds.items().len();
+    match param.role {
+        Role::InputScalar => Ok(Vec::new(alloc)),
+        Role::Output => unknown_words(alloc, count),
+        Role::InputArray => input_words(alloc, store, program, number, count as u8),
+    }
+}
+
+/// The arrays of the parameters.
+#[tactic(
+    auto,
+    using(
+        crate::proofs::StartLemmas::arrays_step,
+        crate::proofs::StartLemmas::param_at,
+        crate::proofs::StartLemmas::param_there
+    )
+)]
+fn start_arrays<T: Interner>(alloc: Global, store: &mut T, program: &Program) -> Result<Vec<Array>, AllocError>
+    requires room { length (T.nodes store.now) < 2 ^ 32 - 1 }
+    requires begins { Prefix (sources.source_made program.now).table (T.nodes store.now) }
+    ensures arrays { IfOk result (λ arrays. arrays.items
+        ≡ sources.arrays_at_start (T.nodes store.old) program.now.params 0 program.now.params) }
+    ensures table { T.nodes store.new ≡ T.nodes store.old }
+{
+    let mut arrays = Vec::new(alloc);
+    let mut number = 0;
+    for param in program.params() {
+        let words = start_words(alloc, store, program, number, param)?;
+        arrays.push(Array::new(param.role, words))?;
+        number += 1;
+    }
+    Ok(arrays)
 }
