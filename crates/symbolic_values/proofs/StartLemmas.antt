@@ -18,12 +18,13 @@ use Rattle.x86_meaning.specs.Start.{param_reg}
 use Rattle.terms.specs.declared.nodes.Node.{Node}
 use Rattle.terms.specs.Tables.{Prefix}
 use Rattle.term_store.specs.Interning.{Interned, made}
+use Rattle.symbolic_values.specs.Symbols.{Symbols}
 use Rattle.symbolic_values.specs.Sources.{array_at_start, arrays_at_start, input_form, input_node, source_made}
 use Rattle.symbolic_values.specs.Sources.{symbols_at_start, with_scalars}
-use Rattle.symbolic_values.specs.Fitting.{FitsTable}
+use Rattle.symbolic_values.specs.Fitting.{FitsTable, HasShape}
 use Rattle.symbolic_values.proofs.Made.{prefix_length}
 use Rattle.symbolic_values.proofs.SourceStarts.{StandsIn, input_there, source_starts}
-use Rattle.symbolic_values.proofs.AtStart.{IsInput, start_fits}
+use Rattle.symbolic_values.proofs.AtStart.{IsInput, start_fits, start_shape}
 
 -- ---- input words
 
@@ -50,13 +51,17 @@ source_long : (program : Source) → IsAccepted program → 16 ≤ length (sourc
 source_long program accepted =
     slice_get_within (source_made program).table 15 _ (source_starts program accepted 15 (omega arith))
 
-pub fits_at_start : (program : Source) (u : List Node) (frame : ℕ) → IsAccepted program
-    → Prefix (source_made program).table u → FitsTable u (symbols_at_start u program frame)
-fits_at_start program u frame accepted begins =
+pub fits_at_start : (program : Source) (u : List Node) (frame : ℕ) (y : Symbols) → IsAccepted program
+    → Prefix (source_made program).table u → y ≡ symbols_at_start u program frame → FitsTable u y
+fits_at_start program u frame y accepted begins is =
     let long = source_long program accepted in
     let longer = prefix_length begins in
-    start_fits program accepted u (omega arith)
-    (λ param word input. input_inside program u param word accepted begins input) frame
+    rw is (start_fits program accepted u (omega arith)
+    (λ param word input. input_inside program u param word accepted begins input) frame)
+
+pub shape_at_start : (program : Source) (u : List Node) (frame : ℕ) (y : Symbols)
+    → y ≡ symbols_at_start u program frame → HasShape program frame y
+shape_at_start program u frame y is = rw is (start_shape u program frame)
 
 -- ---- word by word
 
@@ -99,3 +104,9 @@ pub scalars_step : (t : List Node) (params : List Param) (n i : ℕ) (d : Param)
     ≡ with_scalars t params (n + 1) (drop (i + 1) params) (if is_scalar (get_or params i d).role then
     slice_set regs (number_of (param_reg n)) (input_node t params n 0) else regs)
 scalars_step t params n i d regs h = rw (drop_more params i d h) refl
+
+-- a scalar is an input, and has a first word
+pub scalar_param : (params : List Param) (n : ℕ) (p : Param) → slice_get params n ≡ Some p → IsParam p
+    → p.role ≡ InputScalar → IsInput params n 0
+scalar_param params n p e is role =
+    let some_words = is.some_words in input_param params n 0 p e (rw role refl) (omega arith)

@@ -9,12 +9,13 @@ mod forms;
 mod inputs;
 mod moved;
 mod rows;
-mod start;
+mod start_state;
 mod state;
 mod steps;
 mod touch;
 mod unary;
 
 pub use moved::Moved;
+pub use start_state::start;
 pub use state::SymState;
 pub use touch::Touch;

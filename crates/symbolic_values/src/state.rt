@@ -79,6 +79,39 @@ fn written_in(arrays: &[Array], word: usize) -> Option<u32>
 }
 
 impl SymState {
+    /// The state with these registers and this memory, in which no flag is known.
+    pub(crate) fn new(
+        alloc: Global,
+        regs: [u32; 16],
+        arrays: Vec<Array>,
+        frame: Vec<Option<u32>>,
+        overlap: bool,
+    ) -> SymState
+        requires { 8 * length frame.items ≤ MAX_FRAME_BYTES }
+        ensures { result ≡ record {
+            regs = regs;
+            cf = None;
+            of = None;
+            zf = None;
+            arrays = arrays.items;
+            frame = frame.items;
+            overlap = overlap;
+            touch = None;
+        } }
+    {
+        SymState {
+            alloc,
+            regs,
+            cf: None,
+            of: None,
+            zf: None,
+            arrays,
+            frame,
+            overlap,
+            touch: None,
+        }
+    }
+
     /// The allocator of the state's lists.
     pub(crate) fn alloc(&self) -> Global {
         self.alloc

@@ -1,7 +1,7 @@
 -- The arrays so far come before those of the parameters that are left, and the table is as it was.
 use Rattle.std.proofs.Common.{◌≡◌, ◌++◌, drop}
 use Rattle.symbolic_values.specs.Sources.{arrays_at_start}
-use Rattle.symbolic_values.proofs.start.start_arrays.Given as goal
+use Rattle.symbolic_values.proofs.start_state.start_arrays.Given as goal
 
 abbrev pub invariant-loop-param : goal.invariant-loop-param
 invariant-loop-param g l = record {

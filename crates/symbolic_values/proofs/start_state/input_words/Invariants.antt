@@ -2,7 +2,7 @@
 use Rattle.std.proofs.Common.{◌≡◌, Some, map}
 use Rattle.std.specs.List.{range_with_len}
 use Rattle.symbolic_values.specs.Sources.{input_node}
-use Rattle.symbolic_values.proofs.start.input_words.Given as goal
+use Rattle.symbolic_values.proofs.start_state.input_words.Given as goal
 
 abbrev pub invariant-loop-word : goal.invariant-loop-word
 invariant-loop-word g l = record {

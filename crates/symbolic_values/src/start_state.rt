@@ -4,7 +4,7 @@ ghost use Rattle.std.specs.Prelude.{◌≡◌, ℕ, ◌+◌, ◌-◌, ◌^◌, �
 ghost use Rattle.std.specs.Prelude.{OnOk, if◌then◌else◌, slice_set, IsFalse};
 ghost use Rattle.std.specs.List.{range_with_len};
 ghost use Rattle.word_program.specs.declared.operation.Operand.TheVariants as operands;
-ghost use Rattle.word_program.specs.Accepted.{IsOperand, IsParam};
+ghost use Rattle.word_program.specs.Accepted.{IsAccepted, IsOperand, IsParam};
 ghost use Rattle.base.specs.declared.limits.TheConstants.{MAX_ARRAY_WORDS};
 ghost use Rattle.word_program.specs.Values as values;
 ghost use Rattle.x86_instr.specs.declared.listing.TheConstants.{MAX_FRAME_BYTES};
@@ -123,4 +123,107 @@ fn start_arrays<T: Interner>(alloc: Global, store: &mut T, program: &Program) ->
         number += 1;
     }
     Ok(arrays)
+}
+
+/// The registers with the word of a parameter, where it is a scalar.
+#[tactic(
+    auto,
+    using(crate::proofs::StartLemmas::input_param, crate::proofs::StartLemmas::scalar_param)
+)]
+fn with_scalar<T: Interner>(
+    store: &mut T,
+    program: &Program,
+    number: u8,
+    param: &Param,
+    mut regs: [u32; 16],
+) -> Result<[u32; 16], AllocError>
+    requires room { length (T.nodes store.now) < 2 ^ 32 - 1 }
+    requires begins { Prefix (sources.source_made program.now).table (T.nodes store.now) }
+    requires there { slice_get program.now.params number ≡ Some param.now }
+    requires param { IsParam param.now }
+    ensures regs { IfOk result (λ new. new ≡ (if values.is_scalar param.now.role then slice_set regs
+        (number_of (areas.param_reg number)) (sources.input_node (T.nodes store.old) program.now.params number 0)
+        else regs)) }
+    ensures table { T.nodes store.new ≡ T.nodes store.old }
+{
+    match param.role {
+        Role::Output | Role::InputArray => Ok(regs),
+        Role::InputScalar => {
+            let reg = param_reg(number as usize);
+            regs[usize::from(reg.number())] = input_node(store, program, number, 0)?;
+            Ok(regs)
+        }
+    }
+}
+
+/// The registers: each scalar's holds its word, and every other one what it holds at the start.
+#[tactic(
+    auto,
+    using(
+        crate::proofs::StartLemmas::scalars_step,
+        crate::proofs::StartLemmas::param_at,
+        crate::proofs::StartLemmas::param_there
+    )
+)]
+fn start_regs<T: Interner>(store: &mut T, program: &Program) -> Result<[u32; 16], AllocError>
+    requires room { length (T.nodes store.now) < 2 ^ 32 - 1 }
+    requires begins { Prefix (sources.source_made program.now).table (T.nodes store.now) }
+    ensures regs { IfOk result (λ regs. regs
+        ≡ sources.with_scalars (T.nodes store.old) program.now.params 0 program.now.params (range_with_len 0 16)) }
+    ensures table { T.nodes store.new ≡ T.nodes store.old }
+    ensures accepted { IsAccepted program.now }
+{
+    let mut regs = [0, 1, 2, 3, 4, 5, 6, 7, 8, 9, 10, 11, 12, 13, 14, 15];
+    let mut number = 0;
+    for param in program.params() {
+        regs = with_scalar(store, program, number, param, regs)?;
+        number += 1;
+    }
+    Ok(regs)
+}
+
+/// The state at the start.
+#[tactic(auto, unfolding(crate::specs::Sources::symbols_at_start))]
+fn state_at_start<T: Interner>(
+    alloc: Global,
+    store: &mut T,
+    program: &Program,
+    frame: u32,
+) -> Result<SymState, AllocError>
+    requires begins { Prefix (sources.source_made program.now).table (T.nodes store.now) }
+    requires frame { frame ≤ MAX_FRAME_BYTES }
+    requires room { length (T.nodes store.now) < 2 ^ 32 - 1 }
+    ensures state { IfOk result (λ state. state ≡ sources.symbols_at_start (T.nodes store.old) program.now frame) }
+    ensures table { T.nodes store.new ≡ T.nodes store.old }
+    ensures accepted { IsAccepted program.now }
+{
+    let regs = start_regs(store, program)?;
+    let arrays = start_arrays(alloc, store, program)?;
+    let words = unknown_words(alloc, (frame / 8) as usize)?;
+    Ok(SymState::new(alloc, regs, arrays, words, program.overlap()))
+}
+
+/// The symbolic state at the start of a listing with a frame of so many bytes, over a table that begins with the nodes
+/// of the program: each scalar's register and each word of an input array holds the node of its input word, and every
+/// other register that of what it holds at the start. Flags, the words of outputs and those of the frame are unknown.
+/// The one error is want of memory. The table stays as it is.
+#[tactic(
+    auto,
+    using(crate::proofs::StartLemmas::fits_at_start, crate::proofs::StartLemmas::shape_at_start)
+)]
+pub fn start<T: Interner>(
+    alloc: Global,
+    store: &mut T,
+    program: &Program,
+    frame: u32,
+) -> Result<SymState, AllocError>
+    requires begins { Prefix (sources.source_made program.now).table (T.nodes store.now) }
+    requires frame { frame ≤ MAX_FRAME_BYTES }
+    requires room { length (T.nodes store.now) ≤ 2 ^ 32 - 32 }
+    ensures state { IfOk result (λ state. state ≡ sources.symbols_at_start (T.nodes store.old) program.now frame) }
+    ensures table { T.nodes store.new ≡ T.nodes store.old }
+    ensures fits { IfOk result (FitsTable (T.nodes store.new)) }
+    ensures shape { IfOk result (HasShape program.now frame) }
+{
+    state_at_start(alloc, store, program, frame)
 }
