@@ -7,3 +7,5 @@ pub mod FormsFit
 pub mod SourceStarts
 pub mod AtStart
 pub mod StartLemmas
+pub mod Covered
+pub mod StepFits

@@ -111,24 +111,22 @@ impl SymState {
         Ok(Moved::Done)
     }
 
-    /// Steps over one instruction. Stuck exactly where it reads an unknown flag or word, or reads or writes what is no
-    /// known cell, or is an instruction that is not known here; the state is then unchanged. The one error is want of
-    /// memory, which leaves the state as it was. The table grows by at most 16 nodes.
+    /// Steps over one instruction.
     #[tactic(
         auto,
         unfolding(crate::specs::Steps::step_of),
         using(crate::proofs::Made::prefix_refl)
     )]
-    pub fn sym_step<T: Interner>(&mut self, store: &mut T, line: &Line) -> Result<Moved, AllocError>
+    fn step_over<T: Interner>(&mut self, store: &mut T, instr: &Instr) -> Result<Moved, AllocError>
         requires fits { FitsTable (T.nodes store.now) self.now }
         requires room { length (T.nodes store.now) ≤ 2 ^ 32 - 32 }
-        ensures step { IfOk result (λ moved. IsStep moved (steps.step_of line.now.instr (T.nodes store.old) self.old)
+        ensures step { IfOk result (λ moved. IsStep moved (steps.step_of instr.now (T.nodes store.old) self.old)
             (T.nodes store.new) self.old self.new) }
         ensures err { OnErr result (self.new ≡ self.old) }
         ensures grows { Prefix (T.nodes store.old) (T.nodes store.new) }
         ensures most { length (T.nodes store.new) ≤ length (T.nodes store.old) + 16 }
     {
-        match line.instr {
+        match *instr {
             Instr::Mov { dst, src } => return self.mov(store, dst, src),
             Instr::MovImm { dst, imm } => return self.mov_imm(store, dst, imm),
             Instr::Store { mem, src } => return self.store(store, mem, src),
@@ -141,5 +139,23 @@ impl SymState {
             _ => return Ok(Moved::Stuck),
         }
         Ok(Moved::Done)
+    }
+
+    /// Steps over the instruction of a line. Stuck exactly where the instruction reads an unknown flag or word, reads or
+    /// writes what is no known cell, or is none of those that are known here; the state is then unchanged. The one error
+    /// is want of memory, which leaves the state unchanged too. In every case the table goes on, by at most 16 nodes, and
+    /// the state fits it.
+    pub fn sym_step<T: Interner>(&mut self, store: &mut T, line: &Line) -> Result<Moved, AllocError>
+        requires fits { FitsTable (T.nodes store.now) self.now }
+        requires room { length (T.nodes store.now) ≤ 2 ^ 32 - 32 }
+        ensures step { IfOk result (λ moved. IsStep moved (steps.step_of line.now.instr (T.nodes store.old) self.old)
+            (T.nodes store.new) self.old self.new) }
+        ensures err { OnErr result (self.new ≡ self.old) }
+        ensures grows { Prefix (T.nodes store.old) (T.nodes store.new) }
+        ensures most { length (T.nodes store.new) ≤ length (T.nodes store.old) + 16 }
+        ensures fits { FitsTable (T.nodes store.new) self.new }
+    {
+        let _count = store.count();
+        self.step_over(store, &line.instr)
     }
 }
