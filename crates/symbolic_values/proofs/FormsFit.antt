@@ -44,10 +44,10 @@ sum3_fits t a b c h i j =
 
 pub carry2_fits : (t : List Node) (a b : ℕ) → a < length t → b < length t → FormFits t (forms.Carry (a ∷ b ∷ []))
 carry2_fits t a b h i = (
-    All-from_recursion (λ m. m < length t) (a ∷ b ∷ []) (h, (i, tt)),
-    omega arith,
-    omega arith,
-    count_by-le-length (is_no_bit t) (a ∷ b ∷ []),
+  All-from_recursion (λ m. m < length t) (a ∷ b ∷ []) (h, (i, tt)),
+  omega arith,
+  omega arith,
+  count_by-le-length (is_no_bit t) (a ∷ b ∷ []),
 )
 
 -- of three, one that does not count
@@ -62,10 +62,10 @@ bit_is_none t c bit = let high : (node_at t c).high ≤ 1 = bit.high in grind (a
 pub carry3_fits : (t : List Node) (a b c : ℕ) → a < length t → b < length t → IsBit t c
     → FormFits t (forms.Carry (a ∷ b ∷ c ∷ []))
 carry3_fits t a b c h i bit = (
-    All-from_recursion (λ m. m < length t) (a ∷ b ∷ c ∷ []) (h, (i, (bit.inside, tt))),
-    omega arith,
-    omega arith,
-    two_of_three (is_no_bit t) a b c (bit_is_none t c bit),
+  All-from_recursion (λ m. m < length t) (a ∷ b ∷ c ∷ []) (h, (i, (bit.inside, tt))),
+  omega arith,
+  omega arith,
+  two_of_three (is_no_bit t) a b c (bit_is_none t c bit),
 )
 
 pub borrow1_fits : (t : List Node) (a b : ℕ) → a < length t → b < length t → FormFits t (forms.Borrow a (b ∷ []))
@@ -82,12 +82,14 @@ index_fits : (t : List Node) (y : Symbols) (index : Option Index) → FitsTable 
     → AreTermsBelow (length t) (index_terms y index) × (length (index_terms y index) ≤ 1)
 index_fits t y None fits = (All-nil (λ s. s.node < length t), omega arith)
 index_fits t y (Some index) fits = (
-    All-from_recursion (λ s. s.node < length t) (index_terms y (Some index)) (node_below t y index.reg fits, tt),
-    omega arith,
+  All-from_recursion (λ s. s.node < length t) (index_terms y (Some index)) (node_below t y index.reg fits, tt),
+  omega arith,
 )
 
 pub address_fits : (t : List Node) (y : Symbols) (mem : Mem) → FitsTable t y → FormFits t (address_form y mem)
 address_fits t y mem fits = let index = index_fits t y mem.index fits in
-    let few : length (index_terms y mem.index) ≤ 1 = index.1 in
-    (All-cons (λ s. s.node < length t) (term 1 (node_in y mem.base)) (index_terms y mem.index)
-    (node_below t y mem.base fits) index.0, omega arith)
+    let few : length (index_terms y mem.index) ≤ 1 = index.1 in (
+      All-cons (λ s. s.node < length t) (term 1 (node_in y mem.base)) (index_terms y mem.index)
+          (node_below t y mem.base fits) index.0,
+      omega arith,
+    )

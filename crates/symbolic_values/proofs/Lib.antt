@@ -4,6 +4,7 @@ pub mod Made
 pub mod StateFits
 pub mod Touches
 pub mod FormsFit
+pub mod StepRules
 pub mod SourceStarts
 pub mod AtStart
 pub mod StartLemmas

@@ -110,3 +110,9 @@ pub scalar_param : (params : List Param) (n : ℕ) (p : Param) → slice_get par
     → p.role ≡ InputScalar → IsInput params n 0
 scalar_param params n p e is role =
     let some_words = is.some_words in input_param params n 0 p e (rw role refl) (omega arith)
+
+-- ---- what the code's goals want
+
+pub ruleset inputs = (input_again, input_param, scalar_param, words_more, few_unknown, few_inputs)
+
+pub ruleset next_params = (arrays_step, scalars_step, param_at, param_there)

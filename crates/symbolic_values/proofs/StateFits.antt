@@ -61,11 +61,11 @@ arrays_later t u le (array ∷ arrays) k =
 
 pub fits_longer : (t u : List Node) (y : Symbols) → Prefix t u → FitsTable t y → FitsTable u y
 fits_longer t u y p fits = let longer : length t ≤ length u = prefix_length p in record {
-    sixteen = fits.sixteen;
-    registers = All-weaker (λ n. n < length t) (λ n. n < length u) (λ n h. omega arith) y.regs fits.registers;
-    cf = flag_later t u p y.cf fits.cf;
-    of = flag_later t u p y.of fits.of;
-    zf = flag_later t u p y.zf fits.zf;
-    arrays = arrays_later t u longer y.arrays fits.arrays;
-    frame = known_later (length t) (length u) longer y.frame fits.frame;
+  sixteen = fits.sixteen;
+  registers = All-weaker (λ n. n < length t) (λ n. n < length u) (λ n h. omega arith) y.regs fits.registers;
+  cf = flag_later t u p y.cf fits.cf;
+  of = flag_later t u p y.of fits.of;
+  zf = flag_later t u p y.zf fits.zf;
+  arrays = arrays_later t u longer y.arrays fits.arrays;
+  frame = known_later (length t) (length u) longer y.frame fits.frame;
 }

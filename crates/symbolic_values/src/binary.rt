@@ -19,14 +19,7 @@ use x86_instr::{Bin, Reg};
 
 impl SymState {
     /// `add`
-    #[tactic(
-        auto,
-        using(
-            crate::proofs::FormsFit::node_below,
-            crate::proofs::FormsFit::sum2_fits,
-            crate::proofs::FormsFit::carry2_fits
-        )
-    )]
+    #[tactic(auto, using(crate::proofs::StepRules::fitting))]
     fn add<T: Interner>(
         &mut self,
         store: &mut T,
@@ -52,15 +45,7 @@ impl SymState {
     }
 
     /// `adc`, which is stuck where the carry flag is unknown
-    #[tactic(
-        auto,
-        using(
-            crate::proofs::Made::prefix_refl,
-            crate::proofs::FormsFit::node_below,
-            crate::proofs::FormsFit::sum3_fits,
-            crate::proofs::FormsFit::carry3_fits
-        )
-    )]
+    #[tactic(auto, using(crate::proofs::StepRules::fitting))]
     fn add_with_carry<T: Interner>(
         &mut self,
         store: &mut T,
@@ -89,14 +74,7 @@ impl SymState {
     }
 
     /// `sub`
-    #[tactic(
-        auto,
-        using(
-            crate::proofs::FormsFit::node_below,
-            crate::proofs::FormsFit::sum2_fits,
-            crate::proofs::FormsFit::borrow1_fits
-        )
-    )]
+    #[tactic(auto, using(crate::proofs::StepRules::fitting))]
     fn subtract<T: Interner>(
         &mut self,
         store: &mut T,
@@ -122,15 +100,7 @@ impl SymState {
     }
 
     /// `sbb`, which is stuck where the carry flag is unknown
-    #[tactic(
-        auto,
-        using(
-            crate::proofs::Made::prefix_refl,
-            crate::proofs::FormsFit::node_below,
-            crate::proofs::FormsFit::sum3_fits,
-            crate::proofs::FormsFit::borrow2_fits
-        )
-    )]
+    #[tactic(auto, using(crate::proofs::StepRules::fitting))]
     fn subtract_with_borrow<T: Interner>(
         &mut self,
         store: &mut T,
@@ -159,14 +129,7 @@ impl SymState {
     }
 
     /// `cmp`
-    #[tactic(
-        auto,
-        using(
-            crate::proofs::FormsFit::node_below,
-            crate::proofs::FormsFit::sum2_fits,
-            crate::proofs::FormsFit::borrow1_fits
-        )
-    )]
+    #[tactic(auto, using(crate::proofs::StepRules::fitting))]
     fn compare<T: Interner>(
         &mut self,
         store: &mut T,
@@ -192,12 +155,7 @@ impl SymState {
     }
 
     /// An operation on a destination register and the node of a source.
-    #[tactic(
-        auto,
-        using(
-            crate::proofs::FormsFit::node_below
-        )
-    )]
+    #[tactic(auto, using(crate::proofs::StepRules::fitting))]
     pub(crate) fn binary<T: Interner>(
         &mut self,
         store: &mut T,

@@ -34,11 +34,7 @@ impl Model for Word {
 
 impl SymState {
     /// The node of a word of the memory. None exactly where the address names no cell or its word is unknown.
-    #[tactic(
-        auto,
-        unfolding(crate::specs::Steps::fetched_cell),
-        using(crate::proofs::FormsFit::address_fits, crate::proofs::StateFits::node_of_below)
-    )]
+    #[tactic(auto, unfolding(crate::specs::Steps::fetched_cell), using(crate::proofs::StepRules::fetching))]
     fn fetched_cell<T: Interner>(&self, store: &mut T, mem: Mem) -> Result<Option<Word>, AllocError>
         requires room { length (T.nodes store.now) ≤ 2 ^ 32 - 8 }
         requires fits { FitsTable (T.nodes store.now) self.now }
@@ -60,11 +56,12 @@ impl SymState {
     }
 
     /// The node of a register or memory source.
-    #[tactic(
-        auto,
-        using(crate::proofs::Made::prefix_refl, crate::proofs::FormsFit::node_below)
-    )]
-    pub(crate) fn fetched_rm<T: Interner>(&self, store: &mut T, src: Rm) -> Result<Option<Word>, AllocError>
+    #[tactic(auto, using(crate::proofs::StepRules::fetching))]
+    pub(crate) fn fetched_rm<T: Interner>(
+        &self,
+        store: &mut T,
+        src: Rm,
+    ) -> Result<Option<Word>, AllocError>
         requires room { length (T.nodes store.now) ≤ 2 ^ 32 - 8 }
         requires fits { FitsTable (T.nodes store.now) self.now }
         ensures word { IfOk result (λ word. record { table = T.nodes store.new; word = word }
@@ -83,12 +80,12 @@ impl SymState {
     }
 
     /// The node of a source.
-    #[tactic(
-        auto,
-        unfolding(crate::specs::Steps::fetched_const),
-        using(crate::proofs::Made::prefix_refl, crate::proofs::FormsFit::node_below)
-    )]
-    pub(crate) fn fetched_src<T: Interner>(&self, store: &mut T, src: Src) -> Result<Option<Word>, AllocError>
+    #[tactic(auto, unfolding(crate::specs::Steps::fetched_const), using(crate::proofs::StepRules::fetching))]
+    pub(crate) fn fetched_src<T: Interner>(
+        &self,
+        store: &mut T,
+        src: Src,
+    ) -> Result<Option<Word>, AllocError>
         requires room { length (T.nodes store.now) ≤ 2 ^ 32 - 8 }
         requires fits { FitsTable (T.nodes store.now) self.now }
         ensures word { IfOk result (λ word. record { table = T.nodes store.new; word = word }
@@ -111,16 +108,13 @@ impl SymState {
     }
 
     /// Stores the node of a register. Stuck exactly where the address names no cell that is to be written.
-    #[tactic(
-        auto,
-        unfolding(crate::specs::Steps::store_step),
-        using(
-            crate::proofs::FormsFit::address_fits,
-            crate::proofs::Touches::cell_named_touch,
-            crate::proofs::Touches::stored_touch
-        )
-    )]
-    pub(crate) fn store<T: Interner>(&mut self, store: &mut T, mem: Mem, src: Reg) -> Result<Moved, AllocError>
+    #[tactic(auto, unfolding(crate::specs::Steps::store_step), using(crate::proofs::StepRules::fetching))]
+    pub(crate) fn store<T: Interner>(
+        &mut self,
+        store: &mut T,
+        mem: Mem,
+        src: Reg,
+    ) -> Result<Moved, AllocError>
         requires room { length (T.nodes store.now) ≤ 2 ^ 32 - 8 }
         requires fits { FitsTable (T.nodes store.now) self.now }
         ensures step { IfOk result (λ moved. IsStep moved (steps.store_step (T.nodes store.old)

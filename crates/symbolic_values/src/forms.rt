@@ -15,15 +15,7 @@ use terms::{Form, Numbers, Term, Terms};
 use x86_instr::{Index, Mem};
 
 /// The number of what the rules make of a form, interned.
-#[tactic(
-    auto,
-    using(
-        crate::proofs::Made::prefix_refl,
-        crate::proofs::Made::made_prefix,
-        crate::proofs::Made::made_below,
-        crate::proofs::Made::made_most
-    )
-)]
+#[tactic(auto, using(crate::proofs::StepRules::making))]
 pub fn make<T: Interner>(store: &mut T, form: Form) -> Result<u32, AllocError>
     requires room { length (T.nodes store.now) < 2 ^ 32 - 1 }
     requires fits { FormFits (T.nodes store.now) form }

@@ -17,11 +17,7 @@ use x86_instr::Reg;
 
 impl SymState {
     /// Writes a result, its carry, and whether it is 0.
-    #[tactic(
-        auto,
-        unfolding(crate::specs::Steps::arithmetic),
-        using(crate::proofs::Made::prefix_trans, crate::proofs::Made::fits_later)
-    )]
+    #[tactic(auto, unfolding(crate::specs::Steps::arithmetic), using(crate::proofs::StepRules::growing))]
     pub(crate) fn arithmetic<T: Interner>(
         &mut self,
         store: &mut T,
@@ -49,11 +45,7 @@ impl SymState {
     }
 
     /// Writes a result by bits, with 0 as its carry and overflow, and whether it is 0.
-    #[tactic(
-        auto,
-        unfolding(crate::specs::Steps::logic),
-        using(crate::proofs::Made::prefix_trans, crate::proofs::Made::fits_later)
-    )]
+    #[tactic(auto, unfolding(crate::specs::Steps::logic), using(crate::proofs::StepRules::growing))]
     pub(crate) fn logic<T: Interner>(
         &mut self,
         store: &mut T,

@@ -23,8 +23,13 @@ use term_store::Interner;
 use word_program::{Param, Program, Role};
 
 /// The node of an input word, which the table has.
-#[tactic(auto, using(crate::proofs::StartLemmas::input_again))]
-fn input_node<T: Interner>(store: &mut T, program: &Program, param: u8, word: u8) -> Result<u32, AllocError>
+#[tactic(auto, using(crate::proofs::StartLemmas::inputs))]
+fn input_node<T: Interner>(
+    store: &mut T,
+    program: &Program,
+    param: u8,
+    word: u8,
+) -> Result<u32, AllocError>
     requires room { length (T.nodes store.now) < 2 ^ 32 - 1 }
     requires begins { Prefix (sources.source_made program.now).table (T.nodes store.now) }
     requires input { IsOperand program.now.params 0 (operands.Input param word) }
@@ -35,7 +40,7 @@ fn input_node<T: Interner>(store: &mut T, program: &Program, param: u8, word: u8
 }
 
 /// The nodes of the first words of an input.
-#[tactic(auto, using(crate::proofs::StartLemmas::words_more))]
+#[tactic(auto, using(crate::proofs::StartLemmas::inputs))]
 fn input_words<T: Interner>(
     alloc: Global,
     store: &mut T,
@@ -67,14 +72,7 @@ fn unknown_words(alloc: Global, count: usize) -> Result<Vec<Option<u32>>, AllocE
 }
 
 /// The words of a parameter's array.
-#[tactic(
-    auto,
-    using(
-        crate::proofs::StartLemmas::input_param,
-        crate::proofs::StartLemmas::few_unknown,
-        crate::proofs::StartLemmas::few_inputs
-    )
-)]
+#[tactic(auto, using(crate::proofs::StartLemmas::inputs))]
 fn start_words<T: Interner>(
     alloc: Global,
     store: &mut T,
@@ -100,15 +98,12 @@ fn start_words<T: Interner>(
 }
 
 /// The arrays of the parameters.
-#[tactic(
-    auto,
-    using(
-        crate::proofs::StartLemmas::arrays_step,
-        crate::proofs::StartLemmas::param_at,
-        crate::proofs::StartLemmas::param_there
-    )
-)]
-fn start_arrays<T: Interner>(alloc: Global, store: &mut T, program: &Program) -> Result<Vec<Array>, AllocError>
+#[tactic(auto, using(crate::proofs::StartLemmas::next_params))]
+fn start_arrays<T: Interner>(
+    alloc: Global,
+    store: &mut T,
+    program: &Program,
+) -> Result<Vec<Array>, AllocError>
     requires room { length (T.nodes store.now) < 2 ^ 32 - 1 }
     requires begins { Prefix (sources.source_made program.now).table (T.nodes store.now) }
     ensures arrays { IfOk result (λ arrays. arrays.items
@@ -126,10 +121,7 @@ fn start_arrays<T: Interner>(alloc: Global, store: &mut T, program: &Program) ->
 }
 
 /// The registers with the word of a parameter, where it is a scalar.
-#[tactic(
-    auto,
-    using(crate::proofs::StartLemmas::input_param, crate::proofs::StartLemmas::scalar_param)
-)]
+#[tactic(auto, using(crate::proofs::StartLemmas::inputs))]
 fn with_scalar<T: Interner>(
     store: &mut T,
     program: &Program,
@@ -157,14 +149,7 @@ fn with_scalar<T: Interner>(
 }
 
 /// The registers: each scalar's holds its word, and every other one what it holds at the start.
-#[tactic(
-    auto,
-    using(
-        crate::proofs::StartLemmas::scalars_step,
-        crate::proofs::StartLemmas::param_at,
-        crate::proofs::StartLemmas::param_there
-    )
-)]
+#[tactic(auto, using(crate::proofs::StartLemmas::next_params))]
 fn start_regs<T: Interner>(store: &mut T, program: &Program) -> Result<[u32; 16], AllocError>
     requires room { length (T.nodes store.now) < 2 ^ 32 - 1 }
     requires begins { Prefix (sources.source_made program.now).table (T.nodes store.now) }
@@ -207,10 +192,7 @@ fn state_at_start<T: Interner>(
 /// of the program: each scalar's register and each word of an input array holds the node of its input word, and every
 /// other register that of what it holds at the start. Flags, the words of outputs and those of the frame are unknown.
 /// The one error is want of memory. The table stays as it is.
-#[tactic(
-    auto,
-    using(crate::proofs::StartLemmas::fits_at_start, crate::proofs::StartLemmas::shape_at_start)
-)]
+#[tactic(auto, using(crate::proofs::StartLemmas::fits_at_start, crate::proofs::StartLemmas::shape_at_start))]
 pub fn start<T: Interner>(
     alloc: Global,
     store: &mut T,

@@ -41,14 +41,14 @@ impl Model for SymState {
     ghost Value = { Symbols };
 
     ghost view = { λ s. record {
-        regs = s.regs;
-        cf = s.cf;
-        of = s.of;
-        zf = s.zf;
-        arrays = s.arrays.items;
-        frame = s.frame.items;
-        overlap = s.overlap;
-        touch = s.touch;
+      regs = s.regs;
+      cf = s.cf;
+      of = s.of;
+      zf = s.zf;
+      arrays = s.arrays.items;
+      frame = s.frame.items;
+      overlap = s.overlap;
+      touch = s.touch;
     } };
 
     ghost invariant = { λ s. 8 * length s.frame.items ≤ MAX_FRAME_BYTES };
@@ -89,14 +89,14 @@ impl SymState {
     ) -> SymState
         requires { 8 * length frame.items ≤ MAX_FRAME_BYTES }
         ensures { result ≡ record {
-            regs = regs;
-            cf = None;
-            of = None;
-            zf = None;
-            arrays = arrays.items;
-            frame = frame.items;
-            overlap = overlap;
-            touch = None;
+          regs = regs;
+          cf = None;
+          of = None;
+          zf = None;
+          arrays = arrays.items;
+          frame = frame.items;
+          overlap = overlap;
+          touch = None;
         } }
     {
         SymState {

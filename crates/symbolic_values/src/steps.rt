@@ -18,7 +18,7 @@ use x86_instr::{Bin, Instr, Line, Mem, Reg, Rm, Src};
 
 impl SymState {
     /// `mov` from a register or memory.
-    #[tactic(auto, using(crate::proofs::Touches::rm_fetched_touch))]
+    #[tactic(auto, using(crate::proofs::StepRules::fetching))]
     fn mov<T: Interner>(&mut self, store: &mut T, dst: Reg, src: Rm) -> Result<Moved, AllocError>
         requires room { length (T.nodes store.now) ≤ 2 ^ 32 - 32 }
         requires fits { FitsTable (T.nodes store.now) self.now }
@@ -38,7 +38,12 @@ impl SymState {
 
     /// `mov` from an immediate.
     #[tactic(auto, unfolding(crate::specs::Steps::fetched_const))]
-    fn mov_imm<T: Interner>(&mut self, store: &mut T, dst: Reg, imm: u64) -> Result<Moved, AllocError>
+    fn mov_imm<T: Interner>(
+        &mut self,
+        store: &mut T,
+        dst: Reg,
+        imm: u64,
+    ) -> Result<Moved, AllocError>
         requires room { length (T.nodes store.now) ≤ 2 ^ 32 - 32 }
         ensures step { IfOk result (λ moved. IsStep moved (steps.step_from (instrs.MovImm dst imm) (T.nodes store.old)
             (symbols.with_touch None self.old)) (T.nodes store.new) self.old self.new) }
@@ -53,10 +58,7 @@ impl SymState {
     }
 
     /// `lea`
-    #[tactic(
-        auto,
-        using(crate::proofs::Made::prefix_refl, crate::proofs::FormsFit::address_fits)
-    )]
+    #[tactic(auto, using(crate::proofs::StepRules::fetching))]
     fn lea<T: Interner>(&mut self, store: &mut T, dst: Reg, mem: Mem) -> Result<Moved, AllocError>
         requires room { length (T.nodes store.now) ≤ 2 ^ 32 - 32 }
         requires fits { FitsTable (T.nodes store.now) self.now }
@@ -72,15 +74,14 @@ impl SymState {
     }
 
     /// An operation on a destination register and a source.
-    #[tactic(
-        auto,
-        using(
-            crate::proofs::Made::prefix_trans,
-            crate::proofs::StateFits::fits_longer,
-            crate::proofs::Touches::src_fetched_touch
-        )
-    )]
-    fn bin<T: Interner>(&mut self, store: &mut T, op: Bin, dst: Reg, src: Src) -> Result<Moved, AllocError>
+    #[tactic(auto, using(crate::proofs::StepRules::fetching))]
+    fn bin<T: Interner>(
+        &mut self,
+        store: &mut T,
+        op: Bin,
+        dst: Reg,
+        src: Src,
+    ) -> Result<Moved, AllocError>
         requires room { length (T.nodes store.now) ≤ 2 ^ 32 - 32 }
         requires fits { FitsTable (T.nodes store.now) self.now }
         ensures step { IfOk result (λ moved. IsStep moved (steps.step_from (instrs.Bin op dst src) (T.nodes store.old)
@@ -96,7 +97,7 @@ impl SymState {
     }
 
     /// `test`
-    #[tactic(auto, using(crate::proofs::FormsFit::node_below))]
+    #[tactic(auto, using(crate::proofs::StepRules::fetching))]
     fn test_bits<T: Interner>(&mut self, store: &mut T, a: Reg, b: Reg) -> Result<Moved, AllocError>
         requires room { length (T.nodes store.now) ≤ 2 ^ 32 - 32 }
         requires fits { FitsTable (T.nodes store.now) self.now }
@@ -112,11 +113,7 @@ impl SymState {
     }
 
     /// Steps over one instruction.
-    #[tactic(
-        auto,
-        unfolding(crate::specs::Steps::step_of),
-        using(crate::proofs::Made::prefix_refl)
-    )]
+    #[tactic(auto, unfolding(crate::specs::Steps::step_of), using(crate::proofs::StepRules::growing))]
     fn step_over<T: Interner>(&mut self, store: &mut T, instr: &Instr) -> Result<Moved, AllocError>
         requires fits { FitsTable (T.nodes store.now) self.now }
         requires room { length (T.nodes store.now) ≤ 2 ^ 32 - 32 }

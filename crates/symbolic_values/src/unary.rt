@@ -18,18 +18,7 @@ use x86_instr::{Reg, Un};
 
 impl SymState {
     /// `neg`
-    #[tactic(
-        auto,
-        unfolding(crate::specs::Steps::neg_step),
-        using(
-            crate::proofs::Made::prefix_refl,
-            crate::proofs::Made::prefix_trans,
-            crate::proofs::Made::prefix_length,
-            crate::proofs::FormsFit::node_below,
-            crate::proofs::FormsFit::lin1_fits,
-            crate::proofs::FormsFit::borrow1_fits
-        )
-    )]
+    #[tactic(auto, unfolding(crate::specs::Steps::neg_step), using(crate::proofs::StepRules::fitting))]
     fn negate<T: Interner>(&mut self, store: &mut T, dst: Reg) -> Result<(), AllocError>
         requires room { length (T.nodes store.now) ≤ 2 ^ 32 - 9 }
         requires fits { FitsTable (T.nodes store.now) self.now }
@@ -48,14 +37,7 @@ impl SymState {
     }
 
     /// `not`
-    #[tactic(
-        auto,
-        using(
-            crate::proofs::Made::prefix_refl,
-            crate::proofs::FormsFit::node_below,
-            crate::proofs::FormsFit::lin1_fits
-        )
-    )]
+    #[tactic(auto, using(crate::proofs::StepRules::fitting))]
     fn invert<T: Interner>(&mut self, store: &mut T, dst: Reg) -> Result<(), AllocError>
         requires room { length (T.nodes store.now) ≤ 2 ^ 32 - 9 }
         requires fits { FitsTable (T.nodes store.now) self.now }
@@ -70,8 +52,13 @@ impl SymState {
     }
 
     /// An operation on one register: `neg` or `not`. It is stuck at the others.
-    #[tactic(auto, using(crate::proofs::Made::prefix_refl))]
-    pub(crate) fn unary<T: Interner>(&mut self, store: &mut T, op: Un, dst: Reg) -> Result<Moved, AllocError>
+    #[tactic(auto, using(crate::proofs::StepRules::growing))]
+    pub(crate) fn unary<T: Interner>(
+        &mut self,
+        store: &mut T,
+        op: Un,
+        dst: Reg,
+    ) -> Result<Moved, AllocError>
         requires room { length (T.nodes store.now) ≤ 2 ^ 32 - 9 }
         requires fits { FitsTable (T.nodes store.now) self.now }
         ensures step { IfOk result (λ moved. IsStep moved (steps.un_step op dst (symbols.node_in self.old dst)
