@@ -1,18 +1,16 @@
 -- The state at the start over a table that begins with the program's nodes, and its making word by word.
-use Rattle.std.proofs.Common.{◌≡◌, ℕ, zero, suc, ◌+◌, ◌<◌, ◌≤◌, Bool, true, false, List, [], ◌∷◌, ◌++◌, length, map, drop, get_or}
-use Rattle.std.proofs.Common.{replicate, Option, Some, None, refl, sym, ap, ◌∙◌, subst, zero-add, arith}
-use Rattle.std.specs.Prelude.{slice_get, IsSomeAnd, IsFalse, if◌then◌else◌, slice_set}
+use Rattle.std.proofs.Common.{◌≡◌, ℕ, zero, suc, ◌+◌, ◌<◌, ◌≤◌, List, [], ◌∷◌, ◌++◌, length, map, drop, get_or}
+use Rattle.std.proofs.Common.{replicate, Option, Some, None, refl, sym, ap, subst, zero-add, arith}
+use Rattle.std.specs.Prelude.{slice_get, IsFalse, if◌then◌else◌, slice_set}
 use Rattle.std.specs.List.{AllByRecursion, range_with_len}
 use Rattle.std.proofs.lemmas.List.{drop_more, length-replicate}
 use Rattle.std.proofs.lemmas.List.FromFn.{length-map-range_with_len, map-range_with_len_more}
 use Rattle.std.proofs.lemmas.Option.{slice_get_within}
-use Rattle.word_program.specs.declared.operation.Operand.TheVariants as operands
 use Rattle.word_program.specs.declared.parameter.Param.{Param}
-use Rattle.word_program.specs.declared.parameter.Role.{Role}
-use Rattle.word_program.specs.declared.parameter.Role.TheVariants.{Output, InputArray, InputScalar}
+use Rattle.word_program.specs.declared.parameter.Role.TheVariants.{InputScalar}
 use Rattle.word_program.specs.Program.{Source}
 use Rattle.word_program.specs.Values.{is_output, is_scalar}
-use Rattle.word_program.specs.Accepted.{IsAccepted, IsOperand, IsParam}
+use Rattle.word_program.specs.Accepted.{IsAccepted, IsParam}
 use Rattle.x86_instr.specs.Registers.{number_of}
 use Rattle.x86_meaning.specs.Start.{param_reg}
 use Rattle.terms.specs.declared.nodes.Node.{Node}
@@ -23,7 +21,7 @@ use Rattle.symbolic_values.specs.Sources.{array_at_start, arrays_at_start, input
 use Rattle.symbolic_values.specs.Sources.{symbols_at_start, with_scalars}
 use Rattle.symbolic_values.specs.Fitting.{FitsTable, HasShape}
 use Rattle.symbolic_values.proofs.Made.{prefix_length}
-use Rattle.symbolic_values.proofs.SourceStarts.{StandsIn, input_there, source_starts}
+use Rattle.symbolic_values.proofs.SourceStarts.{input_there, source_starts}
 use Rattle.symbolic_values.proofs.AtStart.{IsInput, start_fits, start_shape}
 
 -- ---- input words

@@ -6,7 +6,7 @@ use Rattle.std.proofs.lemmas.List.Elements.{All-weaker}
 use Rattle.x86_meaning.specs.Start.{Area}
 use Rattle.x86_meaning.specs.Start as areas
 use Rattle.terms.specs.declared.nodes.Node.{Node}
-use Rattle.terms.specs.Tables.{Prefix, node_at}
+use Rattle.terms.specs.Tables.{Prefix}
 use Rattle.symbolic_values.specs.Symbols.{Array, Symbols}
 use Rattle.symbolic_values.specs.Cells.{known, node_of}
 use Rattle.symbolic_values.specs.Fitting.{AreKnown, FitsTable, IsBit}

@@ -1,5 +1,5 @@
 -- After a step the state fits the table, however the step ended.
-use Rattle.std.proofs.Common.{◌≡◌, List, Some, Ok, Err, Result, sym, ap, subst}
+use Rattle.std.proofs.Common.{◌≡◌, List, Ok, Err, Result, sym, ap, subst}
 use Rattle.std.specs.Prelude.{IfOk, OnErr}
 use Rattle.x86_instr.specs.declared.instr.Instr.{Instr}
 use Rattle.terms.specs.declared.nodes.Node.{Node}

@@ -1,5 +1,5 @@
 -- The last access does not tell in a step.
-use Rattle.std.proofs.Common.{◌≡◌, ℕ, Bool, true, false, List, [], ◌∷◌, Option, Some, None, refl, ap, map}
+use Rattle.std.proofs.Common.{◌≡◌, ℕ, Bool, true, false, List, Option, Some, None, refl, ap, map}
 use Rattle.std.specs.Prelude.{slice_get, slice_set, option_map, option_and_then, if◌then◌else◌}
 use Rattle.base.specs.Options.{guard}
 use Rattle.word_program.specs.Values.{is_output}

@@ -1,15 +1,14 @@
 -- Which cell an address names, and what stands there. An address is a sum; it names a cell where it is the start of an
 -- array and 8 times one of the array's words, or the stack pointer's start less a place in the frame.
-use Rattle.std.specs.Prelude.{◌≡◌, ℕ, ◌+◌, ◌*◌, ◌/◌, ◌%◌, ◌^◌, ◌<◌, Bool, true, false, ◌&&◌, ◌==◌, nat_lt, List, [], ◌∷◌, length}
-use Rattle.std.specs.Prelude.{map, position, slice_get, slice_set, Option, Some, None, if◌then◌else◌, option_map, ℤ, pos}
-use Rattle.std.specs.Prelude.{◌-ℤ◌}
+use Rattle.std.specs.Prelude.{ℕ, ◌+◌, ◌*◌, ◌/◌, ◌%◌, ◌^◌, ◌<◌, Bool, ◌&&◌, ◌==◌, nat_lt, List, []}
+use Rattle.std.specs.Prelude.{◌∷◌, length, map, position, slice_get, slice_set, Option, Some, None, if◌then◌else◌}
+use Rattle.std.specs.Prelude.{option_map, pos, ◌-ℤ◌}
 use Rattle.std.specs.Int.{cast_unsigned, w64}
 use Rattle.std.specs.Option.{option_map_or}
 use Rattle.base.specs.Options.{◌>>=◌, guard, only}
 use Rattle.word_program.specs.Values.{is_output}
 use Rattle.x86_instr.specs.declared.operand.Index.{Index}
 use Rattle.x86_instr.specs.declared.operand.Mem.{Mem}
-use Rattle.x86_instr.specs.declared.operand.Reg.{Reg}
 use Rattle.x86_instr.specs.declared.operand.Reg.TheVariants.{Rsp}
 use Rattle.x86_instr.specs.Registers.{number_of}
 use Rattle.x86_meaning.specs.Start.{Area, Frame, param_reg, param_regs}

@@ -1,6 +1,6 @@
 //! Which cell an address names, and what stands there.
 
-ghost use Rattle.std.specs.Prelude.{◌≡◌, ◌+◌, ◌*◌, ◌/◌, ◌%◌, ◌^◌, ◌<◌, ◌≤◌, length, Some, None, IfSome};
+ghost use Rattle.std.specs.Prelude.{◌≡◌, ◌*◌, ◌/◌, ◌%◌, ◌^◌, ◌<◌, length, Some, None, IfSome};
 ghost use Rattle.std.specs.Bool.{MatchBool};
 ghost use Rattle.terms.specs.Tables.{AreTermsBelow};
 ghost use Rattle.x86_instr.specs.declared.listing.TheConstants.{MAX_FRAME_BYTES};

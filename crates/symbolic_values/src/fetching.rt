@@ -118,7 +118,8 @@ impl SymState {
         requires room { length (T.nodes store.now) ≤ 2 ^ 32 - 8 }
         requires fits { FitsTable (T.nodes store.now) self.now }
         ensures step { IfOk result (λ moved. IsStep moved (steps.store_step (T.nodes store.old)
-            (symbols.with_touch None self.old) mem (symbols.node_in self.old src)) (T.nodes store.new) self.old self.new) }
+            (symbols.with_touch None self.old) mem (symbols.node_in self.old src)) (T.nodes store.new) self.old
+            self.new) }
         ensures err { OnErr result (self.new ≡ self.old) }
         ensures grows { Prefix (T.nodes store.old) (T.nodes store.new) }
         ensures most { length (T.nodes store.new) ≤ length (T.nodes store.old) + 1 }

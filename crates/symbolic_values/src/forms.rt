@@ -19,7 +19,8 @@ use x86_instr::{Index, Mem};
 pub fn make<T: Interner>(store: &mut T, form: Form) -> Result<u32, AllocError>
     requires room { length (T.nodes store.now) < 2 ^ 32 - 1 }
     requires fits { FormFits (T.nodes store.now) form }
-    ensures ok { IfOk result (λ number. record { table = T.nodes store.new; number = number } ≡ made (T.nodes store.old) form) }
+    ensures ok { IfOk result (λ number. record { table = T.nodes store.new; number = number }
+        ≡ made (T.nodes store.old) form) }
     ensures inside { IfOk result (λ number. number < length (T.nodes store.new)) }
     ensures grows { Prefix (T.nodes store.old) (T.nodes store.new) }
     ensures most { length (T.nodes store.new) ≤ length (T.nodes store.old) + 1 }

@@ -1,9 +1,8 @@
 //! What the rows of several instructions write.
 
-ghost use Rattle.std.specs.Prelude.{◌≡◌, ◌+◌, ◌-◌, ◌^◌, ◌<◌, ◌≤◌, length, IfOk, OnOk, OnErr, Some, None};
+ghost use Rattle.std.specs.Prelude.{◌≡◌, ◌+◌, ◌-◌, ◌^◌, ◌<◌, ◌≤◌, length, OnOk, OnErr, Some, None};
 ghost use Rattle.terms.specs.Forms.{FormFits};
 ghost use Rattle.terms.specs.Tables.{Prefix};
-ghost use Rattle.symbolic_values.specs.Fitting.{FitsTable};
 ghost use Rattle.symbolic_values.specs.Steps as steps;
 ghost use Rattle.symbolic_values.specs.Symbols as symbols;
 

@@ -1,7 +1,7 @@
 //! The symbolic state at the start of a listing.
 
-ghost use Rattle.std.specs.Prelude.{◌≡◌, ℕ, ◌+◌, ◌-◌, ◌^◌, ◌/◌, ◌<◌, ◌≤◌, length, map, replicate, slice_get, Some, None, IfOk};
-ghost use Rattle.std.specs.Prelude.{OnOk, if◌then◌else◌, slice_set, IsFalse};
+ghost use Rattle.std.specs.Prelude.{◌≡◌, ℕ, ◌+◌, ◌-◌, ◌^◌, ◌/◌, ◌<◌, ◌≤◌, length, map, replicate};
+ghost use Rattle.std.specs.Prelude.{slice_get, slice_set, Some, None, IfOk, if◌then◌else◌};
 ghost use Rattle.std.specs.List.{range_with_len};
 ghost use Rattle.word_program.specs.declared.operation.Operand.TheVariants as operands;
 ghost use Rattle.word_program.specs.Accepted.{IsAccepted, IsOperand, IsParam};

@@ -5,7 +5,6 @@ ghost use Rattle.std.specs.Prelude.{slice_index_or, IfSome, IsSomeAnd, false, ma
 ghost use Rattle.std.specs.Option.{option_map_or};
 ghost use Rattle.word_program.specs.Values as values;
 ghost use Rattle.base.specs.declared.limits.TheConstants.{MAX_ARRAY_WORDS};
-ghost use Rattle.std.specs.Bool.{MatchBool};
 ghost use Rattle.x86_instr.specs.declared.listing.TheConstants.{MAX_FRAME_BYTES};
 ghost use Rattle.x86_meaning.specs.Start as areas;
 ghost use Rattle.symbolic_values.specs.Cells as cells;
@@ -223,7 +222,8 @@ impl SymState {
 
     /// Whether the array of a parameter is an output; false where there is no such parameter.
     pub(crate) fn is_output(&self, param: usize) -> bool
-        ensures { result ≡ option_map_or (λ array. values.is_output array.role) (slice_get self.now.arrays param) false }
+        ensures { result
+            ≡ option_map_or (λ array. values.is_output array.role) (slice_get self.now.arrays param) false }
     {
         match self.arrays.get(param) {
             Some(array) => array.is_output(),

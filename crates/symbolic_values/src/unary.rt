@@ -23,7 +23,8 @@ impl SymState {
         requires room { length (T.nodes store.now) ≤ 2 ^ 32 - 9 }
         requires fits { FitsTable (T.nodes store.now) self.now }
         ensures step { OnOk result (steps.goes (T.nodes store.new) self.new
-            ≡ steps.neg_step dst (symbols.node_in self.old dst) (T.nodes store.old) (symbols.with_touch None self.old)) }
+            ≡ steps.neg_step dst (symbols.node_in self.old dst) (T.nodes store.old)
+            (symbols.with_touch None self.old)) }
         ensures err { OnErr result (self.new ≡ self.old) }
         ensures grows { Prefix (T.nodes store.old) (T.nodes store.new) }
         ensures most { length (T.nodes store.new) ≤ length (T.nodes store.old) + 4 }
