@@ -32,3 +32,10 @@ pub mod RowValues
 pub mod SourceValues
 pub mod SourceOutputs
 pub mod FormSteps
+pub mod Forgetting
+pub mod StateFits
+pub mod Touches
+pub mod FormsFit
+pub mod StepRules
+pub mod StartLemmas
+pub mod StepFits

@@ -1,14 +1,14 @@
 -- Which cell an address names, and what stands there. An address is a sum; it names a cell where it is the start of an
 -- array and 8 times one of the array's words, or the stack pointer's start less a place in the frame.
-use Rattle.std.specs.Prelude.{◌≡◌, ℕ, ◌+◌, ◌*◌, ◌/◌, ◌%◌, ◌^◌, Bool, true, false, ◌&&◌, ◌==◌, nat_lt, List, [], ◌∷◌, length}
-use Rattle.std.specs.Prelude.{map, position, slice_get, slice_set, Option, Some, None, if◌then◌else◌, option_map, ℤ, pos}
-use Rattle.std.specs.Prelude.{◌-ℤ◌}
+use Rattle.std.specs.Prelude.{ℕ, ◌+◌, ◌*◌, ◌/◌, ◌%◌, ◌^◌, ◌<◌, Bool, ◌&&◌, ◌==◌, nat_lt, List, []}
+use Rattle.std.specs.Prelude.{◌∷◌, length, map, position, slice_get, slice_set, Option, Some, None, if◌then◌else◌}
+use Rattle.std.specs.Prelude.{option_map, pos, ◌-ℤ◌}
 use Rattle.std.specs.Int.{cast_unsigned, w64}
+use Rattle.std.specs.Option.{option_map_or}
 use Rattle.base.specs.Options.{◌>>=◌, guard, only}
 use Rattle.word_program.specs.Values.{is_output}
 use Rattle.x86_instr.specs.declared.operand.Index.{Index}
 use Rattle.x86_instr.specs.declared.operand.Mem.{Mem}
-use Rattle.x86_instr.specs.declared.operand.Reg.{Reg}
 use Rattle.x86_instr.specs.declared.operand.Reg.TheVariants.{Rsp}
 use Rattle.x86_instr.specs.Registers.{number_of}
 use Rattle.x86_meaning.specs.Start.{Area, Frame, param_reg, param_regs}
@@ -65,6 +65,11 @@ pub record Cell : Type 0 where
   pub area : Area
   pub word : ℕ
 
+-- the array of a parameter, and the frame where there is no parameter
+abbrev pub area_of : Option ℕ → Area
+area_of None = Frame
+area_of (Some param) = areas.Array param
+
 -- the word of an area with so many words at a multiple of 8 from its start
 abbrev pub word_at : ℕ → ℕ → Option ℕ
 word_at offset count = guard (offset % 8 == 0 && nat_lt (offset / 8) count) (offset / 8)
@@ -101,6 +106,16 @@ abbrev pub touch_of : Bool → Symbols → Cell → Touch
 touch_of write y cell = touch_in write (length y.frame) cell.area cell.word
 
 -- ---- what stands in cells
+
+-- how many words an area has
+abbrev pub words_in : Symbols → Area → ℕ
+words_in y (areas.Array param) = option_map_or (λ array. length array.words) (slice_get y.arrays param) 0
+words_in y Frame = length y.frame
+words_in y areas.Return = 0
+
+-- the cell's area has such a word
+abbrev pub IsInside : Symbols → Cell → Type 0
+IsInside y cell = cell.word < words_in y cell.area
 
 abbrev pub known : List (Option ℕ) → ℕ → Option ℕ
 known words word = slice_get words word >>= λ node. node

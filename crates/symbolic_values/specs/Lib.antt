@@ -2,6 +2,7 @@
 pub mod Symbols
 pub mod Cells
 pub mod Steps
+pub mod Moving
 pub mod Sources
 pub mod Fitting
 pub mod Covering

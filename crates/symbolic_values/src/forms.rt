@@ -5,26 +5,22 @@ ghost use Rattle.terms.specs.declared.nodes.Form.TheVariants as forms;
 ghost use Rattle.terms.specs.Forms.{FormFits};
 ghost use Rattle.terms.specs.Tables.{Prefix};
 ghost use Rattle.term_store.specs.Interning.{made};
+ghost use Rattle.symbolic_values.specs.Cells as cells;
 ghost use Rattle.symbolic_values.specs.Steps as steps;
 
+use crate::state::SymState;
 use std::alloc::{AllocError, Global};
 use term_store::Interner;
 use terms::{Form, Numbers, Term, Terms};
+use x86_instr::{Index, Mem};
 
 /// The number of what the rules make of a form, interned.
-#[tactic(
-    auto,
-    using(
-        term_store::proofs::Prefixes::prefix_refl,
-        term_store::proofs::Made::made_prefix,
-        crate::proofs::Made::made_below,
-        term_store::proofs::Made::made_most
-    )
-)]
+#[tactic(auto, using(crate::proofs::StepRules::making))]
 pub fn make<T: Interner>(store: &mut T, form: Form) -> Result<u32, AllocError>
     requires room { length (T.nodes store.now) < 2 ^ 32 - 1 }
     requires fits { FormFits (T.nodes store.now) form }
-    ensures ok { IfOk result (λ number. record { table = T.nodes store.new; number = number } ≡ made (T.nodes store.old) form) }
+    ensures ok { IfOk result (λ number. record { table = T.nodes store.new; number = number }
+        ≡ made (T.nodes store.old) form) }
     ensures inside { IfOk result (λ number. number < length (T.nodes store.new)) }
     ensures grows { Prefix (T.nodes store.old) (T.nodes store.new) }
     ensures most { length (T.nodes store.new) ≤ length (T.nodes store.old) + 1 }
@@ -74,11 +70,26 @@ pub fn sum3(alloc: Global, a: Term, b: Term, c: Term) -> Result<Form, AllocError
     Ok(Form::Lin { k: 0, terms })
 }
 
+/// The carry of two nodes.
+pub fn carry2(alloc: Global, a: u32, b: u32) -> Result<Form, AllocError>
+    ensures { IfOk result (λ form. form ≡ forms.Carry (a ∷ b ∷ [])) }
+{
+    Ok(Form::Carry(Numbers::from_vec(vec![in alloc; a, b]?)))
+}
+
 /// The carry of three nodes.
 pub fn carry3(alloc: Global, a: u32, b: u32, c: u32) -> Result<Form, AllocError>
     ensures { IfOk result (λ form. form ≡ forms.Carry (a ∷ b ∷ c ∷ [])) }
 {
     Ok(Form::Carry(Numbers::from_vec(vec![in alloc; a, b, c]?)))
+}
+
+/// The borrow of a node from another.
+pub fn borrow1(alloc: Global, a: u32, b: u32) -> Result<Form, AllocError>
+    ensures { IfOk result (λ form. form ≡ forms.Borrow a (b ∷ [])) }
+{
+    let list = Numbers::from_vec(vec![in alloc; b]?);
+    Ok(Form::Borrow { a, list })
 }
 
 /// The borrow of two nodes from another.
@@ -87,4 +98,33 @@ pub fn borrow2(alloc: Global, a: u32, b: u32, c: u32) -> Result<Form, AllocError
 {
     let list = Numbers::from_vec(vec![in alloc; b, c]?);
     Ok(Form::Borrow { a, list })
+}
+
+impl SymState {
+    /// A term, and that of an index.
+    fn with_index(&self, base: Term, index: Option<Index>) -> Result<Terms, AllocError>
+        ensures { IfOk result (λ terms. terms ≡ base ∷ cells.index_terms self.now index) }
+    {
+        let alloc = self.alloc();
+        match index {
+            None => Ok(Terms::from_vec(vec![in alloc; base]?)),
+            Some(index) => {
+                let times = u64::from(index.scale.factor());
+                let node = self.register(index.reg.reg());
+                Ok(Terms::from_vec(vec![in alloc; base, Term { times, node }]?))
+            }
+        }
+    }
+
+    /// The address of a memory operand.
+    pub(crate) fn address(&self, mem: Mem) -> Result<Form, AllocError>
+        ensures { IfOk result (λ form. form ≡ cells.address_form self.now mem) }
+    {
+        let base = plus(self.register(mem.base));
+        let terms = self.with_index(base, mem.index)?;
+        Ok(Form::Lin {
+            k: i64::from(mem.disp).cast_unsigned(),
+            terms,
+        })
+    }
 }
