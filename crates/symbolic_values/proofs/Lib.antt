@@ -5,8 +5,8 @@ pub mod Bases
 pub mod Shapes
 pub mod Places
 pub mod KnownCells
-pub mod Rows
-pub mod Results
+pub mod CoveredRows
+pub mod ResultSteps
 pub mod Words
 pub mod BinRows
 pub mod PlainRows
