@@ -8,6 +8,8 @@ use Rattle.terms.specs.Meaning.{Admits, IsSound, IsValuation, Start, form_value}
 use Rattle.terms.proofs.NormalForms.{normal_fits, normal_stands}
 use Rattle.term_store.specs.Interning.{made}
 use Rattle.term_store.proofs.Made as tables
+use Rattle.term_store.proofs.Made.{made_most, made_prefix}
+use Rattle.term_store.proofs.Prefixes.{prefix_refl}
 
 pub made_table : (t : List Node) (f : Form) → IsTable t → FormFits t f → IsTable (made t f).table
 made_table = tables.made_table normal_fits
@@ -19,3 +21,6 @@ pub made_value : (start : Start) (val : ℕ → ℕ) (t : List Node) (f : Form) 
     → IsValuation start (made t f).table val → IsSound (made t f).table val
     → val (made t f).number ≡ form_value start val f
 made_value = tables.made_value normal_stands
+
+-- what is known of a form that is made
+pub ruleset made_facts = (prefix_refl, made_prefix, made_below, made_most)
