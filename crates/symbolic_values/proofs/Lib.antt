@@ -8,6 +8,7 @@ pub mod SourceRows
 pub mod SourceTables
 pub mod ProgramNodes
 pub mod SourceStarts
+pub mod StartValues
 pub mod RowValues
 pub mod SourceValues
 pub mod SourceOutputs

@@ -1,6 +1,5 @@
 -- What the forms of an operation compute is what the operation computes: one row a kind.
-use Rattle.std.proofs.Common.{◌≡◌, ℕ, ◌+◌, ◌-◌, ◌*◌, ◌%◌, ◌^◌, ◌<◌, sym}
-use Rattle.std.proofs.Common.{◌∙◌, ap, arith}
+use Rattle.std.proofs.Common.{◌≡◌, ℕ, ◌+◌, ◌-◌, ◌*◌, ◌%◌, ◌^◌, ◌<◌, sym, ◌∙◌, ap, arith}
 use Rattle.std.proofs.Math.Nat.{add-mul-mod_self_left}
 
 -- ---- congruent sums

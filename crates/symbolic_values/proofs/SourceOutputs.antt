@@ -1,7 +1,6 @@
 -- The nodes of a program's output words.
 use Rattle.std.proofs.Common.{◌≡◌, ℕ, zero, suc, ◌+◌, ◌<◌, ◌≤◌, Bool, true, false, cond, List, [], ◌∷◌, ◌++◌, length}
-use Rattle.std.proofs.Common.{map}
-use Rattle.std.proofs.Common.{get_or, Option, Some, None, refl, sym, ap, ◌∙◌, subst, arith, ⊎_elim}
+use Rattle.std.proofs.Common.{map, get_or, Option, Some, None, refl, sym, ap, ◌∙◌, subst, arith, ⊎_elim}
 use Rattle.std.specs.Prelude.{count_by, slice_get, slice_index, IsTrue, IsSomeAnd, if◌then◌else◌}
 use Rattle.std.specs.List.{All, position, position_or_len, range_with_len}
 use Rattle.std.specs.Option.{option_map_or}
@@ -14,8 +13,8 @@ use Rattle.word_program.specs.declared.parameter.Param.{Param}
 use Rattle.word_program.specs.declared.operation.Target.{Target}
 use Rattle.word_program.specs.declared.operation.Target.TheVariants as targets
 use Rattle.word_program.specs.Program.{Source}
-use Rattle.word_program.specs.Values.{is_at, is_output, output_count, outputs}
-use Rattle.word_program.specs.Values.{outputs_from, stored_word, targets_of, values_of}
+use Rattle.word_program.specs.Values.{is_at, is_output, output_count, outputs, outputs_from, stored_word, targets_of}
+use Rattle.word_program.specs.Values.{values_of}
 use Rattle.word_program.specs.Accepted.{IsAccepted}
 use Rattle.terms.specs.Meaning.{Start}
 use Rattle.symbolic_values.specs.Sources.{IsRunOn, source_made, source_outputs}

@@ -25,8 +25,7 @@ use Rattle.symbolic_values.specs.Sources.{IsRunOn, source_made}
 use Rattle.symbolic_values.proofs.Growing.{all_made_values, nodes_later}
 use Rattle.symbolic_values.proofs.SourceRows.{row_grows}
 use Rattle.symbolic_values.proofs.SourceTables.{AreSourced, as_many_nodes, bounds_word, operand_grows, operand_nodes_of}
-use Rattle.symbolic_values.proofs.SourceTables.{operands_grow, operands_nodes, ops_grow, some_operand}
-use Rattle.symbolic_values.proofs.SourceTables.{step_sourced}
+use Rattle.symbolic_values.proofs.SourceTables.{operands_grow, operands_nodes, ops_grow, some_operand, step_sourced}
 use Rattle.symbolic_values.proofs.ProgramNodes.{at_start, many_nodes, start_sourced}
 use Rattle.symbolic_values.proofs.RowValues.{IsValued, row_values, valued_front}
 

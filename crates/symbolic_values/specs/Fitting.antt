@@ -1,6 +1,6 @@
 -- What holds between a table, a program and a symbolic state.
-use Rattle.std.specs.Prelude.{◌≡◌, ℕ, ◌/◌, ◌<◌, ◌≤◌, List, [], ◌∷◌, length, Option, IfSome, if◌then◌else◌}
-use Rattle.std.specs.Prelude.{Bool, true, IsFalse, IsSomeAnd, slice_get}
+use Rattle.std.specs.Prelude.{◌≡◌, ℕ, ◌/◌, ◌<◌, ◌≤◌, List, [], ◌∷◌, length, Option, IfSome, if◌then◌else◌, Bool, true}
+use Rattle.std.specs.Prelude.{IsFalse, IsSomeAnd, slice_get}
 use Rattle.std.specs.List.{All, AllByRecursion}
 use Rattle.word_operations.specs.declared.kind.Kind.{Kind}
 use Rattle.word_operations.specs.Operations.{operand_count, takes_bit}
