@@ -12,9 +12,8 @@ use Rattle.term_store.specs.Interning.{made, made_all}
 use Rattle.symbolic_values.specs.Fitting.{AreNodesOf, IsNodeOf}
 use Rattle.term_store.proofs.Prefixes.{at_front, fits_later, prefix_length, prefix_refl, prefix_trans, sound_front}
 use Rattle.term_store.proofs.Prefixes.{valuation_front}
-use Rattle.term_store.proofs.Made.{made_most, made_prefix}
 use Rattle.term_store.proofs.Growth.{made_grown}
-use Rattle.symbolic_values.proofs.Made.{made_below, made_table, made_value}
+use Rattle.term_store.proofs.Made.{made_below, made_most, made_prefix, made_table, made_value}
 use Rattle.symbolic_values.proofs.LowNodes.{MakesBit, made_low}
 
 -- ---- nodes in longer tables

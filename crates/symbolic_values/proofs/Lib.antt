@@ -1,5 +1,4 @@
 -- The lemmas of this crate, one subject a file.
-pub mod Made
 pub mod NeatNodes
 pub mod LowNodes
 pub mod Growing

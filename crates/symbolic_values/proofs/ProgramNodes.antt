@@ -4,7 +4,6 @@ use Rattle.std.proofs.Common.{arith}
 use Rattle.std.specs.Prelude.{fold, slice_index, slice_index_or}
 use Rattle.std.specs.List.{AllByRecursion}
 use Rattle.std.proofs.lemmas.List.{length-append}
-use Rattle.base.proofs.Arithmetic.{not_below_zero}
 use Rattle.word_operations.specs.declared.kind.Kind.{Kind}
 use Rattle.word_operations.specs.declared.kind.Kind.TheVariants.{AddCarry, SubBorrow, MulX, CMov, Add, Sub, Mul, And}
 use Rattle.word_operations.specs.declared.kind.Kind.TheVariants.{Or, Xor, Not, Copy, Shl, Shr, Shrd}
@@ -14,7 +13,6 @@ use Rattle.word_program.specs.declared.operation.Op.{Op}
 use Rattle.word_program.specs.Program.{Source}
 use Rattle.word_program.specs.Values.{bits_of, is_bit_by, op_bits, targets_of}
 use Rattle.word_program.specs.Accepted.{AreOps, IsAccepted, IsParam}
-use Rattle.terms.specs.declared.nodes.Form.{Form}
 use Rattle.terms.specs.Tables.{IsTable}
 use Rattle.terms.specs.Grown.{IsGrown}
 use Rattle.term_store.specs.Interning.{AllMade, made_all}
@@ -24,14 +22,10 @@ use Rattle.symbolic_values.proofs.Growing.{Grows, all_made_grows}
 use Rattle.symbolic_values.proofs.SourceTables.{AreSourced, as_many_nodes, few_start_forms, node_of_number, ops_grow}
 use Rattle.symbolic_values.proofs.SourceTables.{ops_sourced, start_forms_fit, start_forms_have, step_grows}
 use Rattle.symbolic_values.proofs.SourceTables.{step_sourced}
+use Rattle.term_store.proofs.Growth.{grown_empty}
+use Rattle.term_store.proofs.Index.{empty_table}
 
 -- ---- the start
-
-pub empty_table : IsTable []
-empty_table = record { below = λ n h. absurd (not_below_zero n h); distinct = λ m n h g. absurd (not_below_zero n g) }
-
-pub empty_grown : (P : Form → Type 0) → IsGrown P []
-empty_grown P = record { each = λ n h. absurd (not_below_zero n h) }
 
 -- what stands before the first operation
 abbrev pub at_start : List Param → AllMade
@@ -40,7 +34,7 @@ at_start params = record { table = (made_all [] (start_forms params)).table; num
 pub start_grows : (params : List Param) → AllByRecursion IsParam params
     → Grows (IsProgramForm params) [] (length (start_forms params)) (made_all [] (start_forms params)).table
 start_grows params all = all_made_grows (IsProgramForm params) [] (start_forms params) empty_table
-    (empty_grown (IsProgramForm params)) (start_forms_fit params all) (start_forms_have params all)
+    (grown_empty (IsProgramForm params)) (start_forms_fit params all) (start_forms_have params all)
 
 pub start_sourced : (params : List Param) → AllByRecursion IsParam params → AreSourced params [] (at_start params)
 start_sourced params all = let g = start_grows params all in record { table = g.table; grown = g.grown; nodes = tt }

@@ -21,8 +21,7 @@ use Rattle.symbolic_values.specs.Sources.{input_form, inputs_from, param_forms, 
 use Rattle.symbolic_values.proofs.SourceTables.{bounds_word}
 use Rattle.symbolic_values.proofs.ProgramNodes.{source_grows, source_table}
 use Rattle.term_store.proofs.Prefixes.{prefix_refl, prefix_trans}
-use Rattle.term_store.proofs.Made.{made_again_plain, made_prefix}
-use Rattle.symbolic_values.proofs.Made.{made_below}
+use Rattle.term_store.proofs.Made.{made_again_plain, made_below, made_prefix}
 
 -- ---- forms made one after the other
 

@@ -1,5 +1,5 @@
 -- The words of the nodes that stand before the first operation.
-use Rattle.std.proofs.Common.{◌≡◌, ℕ, ◌<◌, ◌≤◌, List, length, sym, ap, ◌∙◌, subst, arith}
+use Rattle.std.proofs.Common.{◌≡◌, ℕ, ◌<◌, List, sym, ap, ◌∙◌, subst, arith}
 use Rattle.std.proofs.lemmas.Option.{get_or_from_slice_get, slice_get_within}
 use Rattle.word_program.specs.declared.operation.Operand.TheVariants as operands
 use Rattle.word_program.specs.Program.{Source}
@@ -12,7 +12,7 @@ use Rattle.terms.specs.Meaning.{IsSound, IsValuation, Start, kind_value}
 use Rattle.term_store.specs.Interning.{Interned, made}
 use Rattle.term_store.proofs.Prefixes.{prefix_refl}
 use Rattle.symbolic_values.specs.Sources.{IsRunOn, input_form, source_made}
-use Rattle.symbolic_values.proofs.Made.{made_value}
+use Rattle.term_store.proofs.Made.{made_value}
 use Rattle.symbolic_values.proofs.SourceTables.{bounds_word}
 use Rattle.symbolic_values.proofs.ProgramNodes.{source_table}
 use Rattle.symbolic_values.proofs.SourceStarts.{input_there, source_starts, start_node}

@@ -12,7 +12,7 @@ use term_store::Interner;
 use terms::{Form, Numbers, Term, Terms};
 
 /// The number of what the rules make of a form, interned.
-#[tactic(auto, using(crate::proofs::Made::made_facts))]
+#[tactic(auto, using(crate::proofs::FormSteps::made_facts))]
 pub fn make<T: Interner>(store: &mut T, form: Form) -> Result<u32, AllocError>
     requires room { length (T.nodes store.now) < 2 ^ 32 - 1 }
     requires fits { FormFits (T.nodes store.now) form }
