@@ -1,5 +1,4 @@
 -- The lemmas of this crate, one subject a file.
-pub mod MadeFacts
 pub mod LaterTables
 pub mod Bases
 pub mod Shapes
@@ -19,7 +18,6 @@ pub mod AllSteps
 pub mod AtStart
 pub mod StepTables
 pub mod Covered
-pub mod Made
 pub mod NeatNodes
 pub mod LowNodes
 pub mod Growing
@@ -28,6 +26,7 @@ pub mod SourceRows
 pub mod SourceTables
 pub mod ProgramNodes
 pub mod SourceStarts
+pub mod StartValues
 pub mod RowValues
 pub mod SourceValues
 pub mod SourceOutputs

@@ -1,5 +1,5 @@
 -- Forms of which the node is at most 1.
-use Rattle.std.proofs.Common.{◌≡◌, ℕ, ◌/◌, ◌^◌, ◌<◌, ◌≤◌, min, max, eqb, List, sym, subst, arith, inl, inr, ⊎_elim, ◌⊎◌}
+use Rattle.std.proofs.Common.{◌≡◌, ℕ, ◌/◌, ◌^◌, ◌<◌, ◌≤◌, min, max, eqb, List, sym, subst, arith, ⊎_elim, ◌⊎◌}
 use Rattle.std.proofs.lemmas.Bool.{cases_lt}
 use Rattle.intervals.specs.declared.interval.Interval.{Interval}
 use Rattle.terms.specs.declared.nodes.Node.{Node}
@@ -69,13 +69,13 @@ module _ (table : List Node) (neat : (n : ℕ) → IsNeat (node_at table n)) whe
   either_low : (a b : ℕ) → (IsLow a) ⊎ (IsLow b) → min (high (min a b)) (high (max a b)) ≤ 1
   either_low a b one = ⊎_elim
       (λ (l : a < b). let p : a ≡ min a b = omega arith in let q : b ≡ max a b = omega arith in
-        subst (λ (m : ℕ). min (high m) (high (max a b)) ≤ 1) p
-        (subst (λ (m : ℕ). min (high a) (high m) ≤ 1) q
-        (⊎_elim (λ (h : IsLow a). omega (arith, h)) (λ (h : IsLow b). omega (arith, h)) one)))
+      subst (λ (m : ℕ). min (high m) (high (max a b)) ≤ 1) p
+      (subst (λ (m : ℕ). min (high a) (high m) ≤ 1) q
+      (⊎_elim (λ (h : IsLow a). omega (arith, h)) (λ (h : IsLow b). omega (arith, h)) one)))
       (λ (l : b ≤ a). let p : b ≡ min a b = omega arith in let q : a ≡ max a b = omega arith in
-        subst (λ (m : ℕ). min (high m) (high (max a b)) ≤ 1) p
-        (subst (λ (m : ℕ). min (high b) (high m) ≤ 1) q
-        (⊎_elim (λ (h : IsLow a). omega (arith, h)) (λ (h : IsLow b). omega (arith, h)) one)))
+      subst (λ (m : ℕ). min (high m) (high (max a b)) ≤ 1) p
+      (subst (λ (m : ℕ). min (high b) (high m) ≤ 1) q
+      (⊎_elim (λ (h : IsLow a). omega (arith, h)) (λ (h : IsLow b). omega (arith, h)) one)))
       (cases_lt a b)
 
   low_built : (form : Form) → MakesBit table form → IsHighBuilt table 1 (normal_of table form)
@@ -101,7 +101,7 @@ module _ (table : List Node) (neat : (n : ℕ) → IsNeat (node_at table n)) whe
   low_built (forms.Shr x k) bit =
       let h = (neat x).word in
       let e : (node_at table x).high / 2 ^ k ≤ 1 =
-          subst (λ (j : ℕ). (node_at table x).high / 2 ^ j ≤ 1) (sym bit) (omega (arith, h)) in
+      subst (λ (j : ℕ). (node_at table x).high / 2 ^ j ≤ 1) (sym bit) (omega (arith, h)) in
       higher table ((node_at table x).high / 2 ^ k) 1 (normal_of table (forms.Shr x k)) e (shr_high table x k)
   low_built (forms.Select c x y) bit = higher table (max (high x) (high y)) 1 _ (omega (arith, bit.0, bit.1))
       (select_high table c x y)

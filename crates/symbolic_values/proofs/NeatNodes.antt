@@ -1,7 +1,7 @@
 -- In a table that the rules made no interval passes the words, and a constant is as high as itself.
 use Rattle.std.proofs.Common.{◌≡◌, ℕ, zero, suc, ◌+◌, ◌-◌, ◌*◌, ◌/◌, ◌%◌, ◌^◌, ◌<◌, ◌≤◌, Bool, true, false, ◌&&◌, ◌||◌}
-use Rattle.std.proofs.Common.{eqb, leb, ltb, min, max, cond, List, [], ◌∷◌, length, take, get_or, Option, Some, None, refl, sym, ap}
-use Rattle.std.proofs.Common.{◌∙◌, subst, arith, ⊎_elim}
+use Rattle.std.proofs.Common.{eqb, leb, ltb, min, max, List, [], ◌∷◌, length, take, get_or, Option, Some, None, refl}
+use Rattle.std.proofs.Common.{sym, ◌∙◌, subst, arith, ⊎_elim}
 use Rattle.std.specs.Prelude.{bit_and, bit_or, bit_xor, nat_lt, sum_by}
 use Rattle.std.specs.List.{list_any}
 use Rattle.std.proofs.lemmas.Bool.{cases_lt}
@@ -12,7 +12,7 @@ use Rattle.std.proofs.Math.Pow.{pow_mono}
 use Rattle.std.specs.Int.{w64, leading_zeros}
 use Rattle.base.specs.Options.{pick}
 use Rattle.intervals.specs.declared.interval.Interval.{Interval}
-use Rattle.intervals.specs.Intervals.{full, window, floors, fitting, ones, bits_and, bits_or, bits_xor, product_low}
+use Rattle.intervals.specs.Intervals.{full, window, fitting, ones, bits_and, bits_or, bits_xor, product_low}
 use Rattle.intervals.specs.Intervals.{product_high, shifted_right, choice}
 use Rattle.terms.specs.declared.lists.Term.{Term}
 use Rattle.terms.specs.declared.nodes.Node.{Node}
@@ -22,7 +22,7 @@ use Rattle.terms.specs.declared.nodes.Form.{Form}
 use Rattle.terms.specs.declared.nodes.Form.TheVariants as forms
 use Rattle.terms.specs.declared.nodes.Built.{Built}
 use Rattle.terms.specs.declared.nodes.Built.TheVariants.{Is, Make}
-use Rattle.terms.specs.Tables.{node_at, no_node, const_of, IsTable}
+use Rattle.terms.specs.Tables.{node_at, no_node, const_of}
 use Rattle.terms.specs.Forms.{FormFits}
 use Rattle.terms.specs.Grown.{IsGrown}
 use Rattle.terms.specs.Sums.{is_far, greatest_sum, least_sum, sum_constant, sum_interval, sum_terms}
@@ -72,12 +72,14 @@ sum_word table k terms = by_if (λ (i : Interval). i.high < 2 ^ 64) (list_any (i
 fitting_word : (low high : ℕ) → (fitting low high).high < 2 ^ 64
 fitting_word low high = by_if (λ (i : Interval). i.high < 2 ^ 64) (nat_lt low (2 ^ 64) && nat_lt high (2 ^ 64))
     (record { low = low; high = high }) full
-    (λ e. let h = second_true (nat_lt low (2 ^ 64)) (nat_lt high (2 ^ 64)) e in grind (arith, nat_tests, h)) (λ _. omega arith)
+    (λ e. let h = second_true (nat_lt low (2 ^ 64)) (nat_lt high (2 ^ 64)) e in grind (arith, nat_tests, h))
+    (λ _. omega arith)
 
 ones_word : (word : ℕ) → ones word < 2 ^ 64
 ones_word word =
-    let h : 2 ^ (64 - leading_zeros w64 word) ≤ 2 ^ 64 = pow_mono {i = 64 - leading_zeros w64 word} {j = 64} (omega arith) in
-    omega (arith, h, pow_pos (64 - leading_zeros w64 word))
+    let digits = 64 - leading_zeros w64 word in
+    let h : 2 ^ digits ≤ 2 ^ 64 = pow_mono {i = digits} {j = 64} (omega arith) in
+    omega (arith, h, pow_pos digits)
 
 -- ---- the rules
 
@@ -150,7 +152,7 @@ module _ (table : List Node) (neat : (n : ℕ) → IsNeat (node_at table n)) whe
   unfolding mul_hi_of
   mul_hi_neat a b =
       let all : high_at table a * high_at table b < 2 ^ 64 * 2 ^ 64 =
-          mul-lt (high_at table a) (high_at table b) (2 ^ 64) (2 ^ 64) (neat a).word (neat b).word in
+      mul-lt (high_at table a) (high_at table b) (2 ^ 64) (2 ^ 64) (neat a).word (neat b).word in
       own_neat (kinds.MulHi a b) (product_high (interval_at table a) (interval_at table b)) (omega arith) refl
 
   -- a constant of two constants, which are as high as their nodes
@@ -235,7 +237,8 @@ module _ (table : List Node) (neat : (n : ℕ) → IsNeat (node_at table n)) whe
   normal_neat (forms.Or a b) f = or_neat (min a b) (max a b)
   normal_neat (forms.Xor a b) f = xor_neat (min a b) (max a b)
   normal_neat (forms.Shr x k) f = let h = (neat x).word in
-      own_neat (kinds.Shr x k) (shifted_right (interval_at table x) k) (omega (arith, h, shr_le (high_at table x) k)) refl
+      own_neat (kinds.Shr x k) (shifted_right (interval_at table x) k)
+      (omega (arith, h, shr_le (high_at table x) k)) refl
   normal_neat (forms.Select c x y) f = select_neat c x y
   normal_neat (forms.SetB v b) f = own_neat (kinds.SetB v b) full (omega arith) refl
 
@@ -250,19 +253,19 @@ front_neat : (P : Form → Type 0) (t : List Node) → IsGrown P t → (n : ℕ)
 front_neat P t grown zero h m = missing_neat
 front_neat P t grown (suc n) h m = ⊎_elim
     (λ (l : m < n).
-      subst IsNeat (get_or-take n t m no_node l ∙ sym (get_or-take (suc n) t m no_node (omega arith)))
-      (front_neat P t grown n (omega arith) m))
+    subst IsNeat (get_or-take n t m no_node l ∙ sym (get_or-take (suc n) t m no_node (omega arith)))
+    (front_neat P t grown n (omega arith) m))
     (λ (l : n ≤ m). ⊎_elim
-      (λ (k : n < m). subst IsNeat (sym (get_or_past (take (suc n) t) m no_node
-        (let e = length-take (suc n) t in omega arith))) missing_neat)
-      (λ (k : m ≤ n).
-        let same : n ≡ m = omega arith in
-        let made = grown.each n (omega arith) in
-        let neat = subst IsNeatBuilt made.made
-            (normal_neat (take n t) (front_neat P t grown n (omega arith)) made.form made.fits) in
-        subst (λ (j : ℕ). IsNeat (node_at (take (suc n) t) j)) same
-        (subst IsNeat (sym (get_or-take (suc n) t n no_node (omega arith))) neat))
-      (cases_lt n m))
+    (λ (k : n < m). subst IsNeat (sym (get_or_past (take (suc n) t) m no_node
+    (let e = length-take (suc n) t in omega arith))) missing_neat)
+    (λ (k : m ≤ n).
+    let same : n ≡ m = omega arith in
+    let made = grown.each n (omega arith) in
+    let neat = subst IsNeatBuilt made.made
+    (normal_neat (take n t) (front_neat P t grown n (omega arith)) made.form made.fits) in
+    subst (λ (j : ℕ). IsNeat (node_at (take (suc n) t) j)) same
+    (subst IsNeat (sym (get_or-take (suc n) t n no_node (omega arith))) neat))
+    (cases_lt n m))
     (cases_lt m n)
 
 pub grown_neat : (P : Form → Type 0) (t : List Node) → IsGrown P t → (n : ℕ) → IsNeat (node_at t n)

@@ -20,7 +20,7 @@ use Rattle.symbolic_values.specs.Symbols.{Symbols}
 use Rattle.symbolic_values.specs.Sources.{array_at_start, arrays_at_start, input_form, input_node, source_made}
 use Rattle.symbolic_values.specs.Sources.{symbols_at_start, with_scalars}
 use Rattle.symbolic_values.specs.Fitting.{FitsTable, HasShape}
-use Rattle.symbolic_values.proofs.Made.{prefix_length}
+use Rattle.term_store.proofs.Prefixes.{prefix_length}
 use Rattle.symbolic_values.proofs.SourceStarts.{input_there, source_starts}
 use Rattle.symbolic_values.proofs.AtStart.{IsInput, start_fits, start_shape}
 

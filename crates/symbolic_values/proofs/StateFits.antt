@@ -10,7 +10,7 @@ use Rattle.terms.specs.Tables.{Prefix}
 use Rattle.symbolic_values.specs.Symbols.{Array, Symbols}
 use Rattle.symbolic_values.specs.Cells.{known, node_of}
 use Rattle.symbolic_values.specs.Fitting.{AreKnown, FitsTable, IsBit}
-use Rattle.symbolic_values.proofs.Made.{at_front, prefix_length}
+use Rattle.term_store.proofs.Prefixes.{at_front, prefix_length}
 
 -- ---- words of the memory
 

@@ -1,6 +1,6 @@
 -- What the goals of the steps' code want.
-use Rattle.symbolic_values.proofs.Made.{fits_later, made_below, made_most, made_prefix, prefix_length, prefix_refl}
-use Rattle.symbolic_values.proofs.Made.{prefix_trans}
+use Rattle.term_store.proofs.Made.{made_below, made_most, made_prefix}
+use Rattle.term_store.proofs.Prefixes.{fits_later, prefix_length, prefix_refl, prefix_trans}
 use Rattle.symbolic_values.proofs.StateFits.{fits_longer, node_of_below}
 use Rattle.symbolic_values.proofs.FormsFit.{address_fits, borrow1_fits, borrow2_fits, carry2_fits, carry3_fits}
 use Rattle.symbolic_values.proofs.FormsFit.{lin1_fits, node_below, sum2_fits, sum3_fits}

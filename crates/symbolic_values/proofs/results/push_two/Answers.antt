@@ -1,5 +1,5 @@
 -- The second form fits the table that the first one leaves.
-use Rattle.std.proofs.Common.{◌≡◌, sym, subst}
+use Rattle.std.proofs.Common.{sym, subst}
 use Rattle.terms.specs.Forms.{FormFits}
 use Rattle.symbolic_values.proofs.results.push_two.Goals as goal
 use Rattle.term_store.proofs.Prefixes.{fits_later}
