@@ -1,3 +1,5 @@
 -- The definitions of this crate, in the order to read them.
+pub mod Preparing
 pub mod Runs
 pub mod Checks
+pub mod Ended

@@ -13,9 +13,9 @@ use Rattle.word_program.specs.declared.parameter.Param.{Param}
 use Rattle.word_program.specs.declared.operation.Target.{Target}
 use Rattle.word_program.specs.declared.operation.Target.TheVariants as targets
 use Rattle.word_program.specs.Program.{Source}
-use Rattle.word_program.specs.Values.{is_at, is_output, output_count, outputs, outputs_from, stored_word, targets_of}
+use Rattle.word_program.specs.Values.{is_at, is_output, output_count, outputs, outputs_from, stored_word, targets_of, output_word}
 use Rattle.word_program.specs.Values.{values_of}
-use Rattle.word_program.specs.Accepted.{IsAccepted}
+use Rattle.word_program.specs.Accepted.{IsAccepted, IsOutputWord}
 use Rattle.terms.specs.Meaning.{Start}
 use Rattle.symbolic_values.specs.Sources.{IsRunOn, source_made, source_outputs}
 use Rattle.symbolic_values.proofs.SourceRows.{one_if}
@@ -179,3 +179,13 @@ outputs_words program inputs start val accepted run =
     outputs_values (targets_of program.ops) (source_made program).numbers (many_nodes program accepted) val
     (values_of program inputs) (source_words program inputs start val accepted run) 0 program.params
     (written_all program accepted)
+
+-- each of them has the program's output word
+pub stored_value : (program : Source) (inputs : List ℕ) (start : Start) (val : ℕ → ℕ) → IsAccepted program
+    → IsRunOn program inputs start val → (param word : ℕ) → IsOutputWord program.params param word
+    → val (stored_word (targets_of program.ops) (source_made program).numbers param word)
+    ≡ output_word program inputs param word
+stored_value program inputs start val accepted run param word h =
+    word_value (targets_of program.ops) (source_made program).numbers (many_nodes program accepted) val
+    (values_of program inputs) (source_words program inputs start val accepted run) param word
+    (accepted.written param word h)

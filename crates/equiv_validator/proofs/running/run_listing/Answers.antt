@@ -1,0 +1,49 @@
+-- The run is that of the listing.
+use Rattle.std.proofs.Common.{◌∙◌}
+use Rattle.equiv_validator.proofs.AtEnd.{ran_stuck, ran_ended, ran_shape}
+use Rattle.equiv_validator.proofs.running.run_listing.Goals as goal
+
+pub returns-in-Some-clause-run : goal.returns-in-Some-clause-run
+returns-in-Some-clause-run c =
+    ran_stuck c.args.prepared.now c.args.listing.now.lines c.args.tail.now _ _ c.in_ok-state.state c.run.new.state _ _
+    c.in_ok-line.field-0 c.in-Some.line
+    (record {
+      base = c.requires.base;
+      own = c.requires.empty;
+      same = c.deref-2.ensures ∙ c.program-2.ensures;
+      frame_is = c.frame.ensures;
+      table_is = c.start.ensures.table;
+      state_is = c.in_ok-state.ensures.state;
+      shape = c.in_ok-state.ensures.shape;
+    })
+    c.in-Some.is (rw c.lines.ensures.lines at c.in_ok-line.ensures.run)
+
+pub returns-in-None-clause-run : goal.returns-in-None-clause-run
+returns-in-None-clause-run c =
+    ran_ended c.args.prepared.now c.args.listing.now.lines c.args.tail.now _ _ c.in_ok-state.state c.run.new.state _ _
+    c.in_ok-line.field-0
+    (record {
+      base = c.requires.base;
+      own = c.requires.empty;
+      same = c.deref-2.ensures ∙ c.program-2.ensures;
+      frame_is = c.frame.ensures;
+      table_is = c.start.ensures.table;
+      state_is = c.in_ok-state.ensures.state;
+      shape = c.in_ok-state.ensures.shape;
+    })
+    c.in-None.is (rw c.lines.ensures.lines at c.in_ok-line.ensures.run)
+
+pub returns-in-None-clause-shape : goal.returns-in-None-clause-shape
+returns-in-None-clause-shape c =
+    ran_shape c.args.prepared.now c.args.listing.now.lines c.args.tail.now _ _ c.in_ok-state.state c.run.new.state _ _
+    c.in_ok-line.field-0
+    (record {
+      base = c.requires.base;
+      own = c.requires.empty;
+      same = c.deref-2.ensures ∙ c.program-2.ensures;
+      frame_is = c.frame.ensures;
+      table_is = c.start.ensures.table;
+      state_is = c.in_ok-state.ensures.state;
+      shape = c.in_ok-state.ensures.shape;
+    })
+    c.in-None.is (rw c.lines.ensures.lines at c.in_ok-line.ensures.run)

@@ -1,0 +1,17 @@
+//! The validator: whether a listing is proved for a program.
+//!
+//! It promises to whoever publishes a listing that [`check`] says `Proved` exactly where the symbolic run of
+//! `specs/Runs.antt` leaves what `specs/Checks.antt` asks for, and that a proved listing is correct: from every start
+//! that the calling convention allows it stores the program's outputs, restores the saved registers, and changes nothing
+//! but outputs and frame. Where it says `Not`, it tells the first failure.
+#![tactic(auto)]
+
+mod checking;
+mod ending;
+mod prepared;
+mod running;
+mod verdict;
+
+pub use checking::{check, check_on};
+pub use prepared::Prepared;
+pub use verdict::{Proof, Verdict, Why};
