@@ -26,7 +26,7 @@ use Rattle.symbolic_values.specs.Covering.{Agrees, Covers, Steps, start_of}
 use Rattle.symbolic_values.specs.Steps.{step_of}
 use Rattle.term_store.proofs.Prefixes.{prefix_refl, prefix_trans, sound_front, valuation_front}
 use Rattle.symbolic_values.proofs.Covered.{covers, step_fits, step_grown, step_table}
-use Rattle.symbolic_values.proofs.CoveredRows.{IsPlain}
+use Rattle.symbolic_values.proofs.StepRows.{IsPlain}
 use Rattle.symbolic_values.proofs.StepTables.{step_prefix, step_shape}
 use Rattle.equiv_validator.specs.Runs.{Ending, Ended, Stuck, SymbolicRun, run_from}
 

@@ -49,7 +49,7 @@ use Rattle.term_store.proofs.Prefixes.{prefix_refl, sound_front, valuation_front
 use Rattle.term_store.proofs.Values.{valuation}
 use Rattle.symbolic_values.specs.Sources.{IsRunOn}
 use Rattle.symbolic_values.proofs.AtStart.{start_agrees, start_shape}
-use Rattle.symbolic_values.proofs.CoveredRows.{IsPlain}
+use Rattle.symbolic_values.proofs.StepRows.{IsPlain}
 use Rattle.symbolic_values.proofs.ProgramNodes.{source_grown, source_table}
 use Rattle.symbolic_values.proofs.SourceOutputs.{stored_value}
 use Rattle.symbolic_values.proofs.SourceStarts.{input_there, source_starts, start_node}

@@ -4,8 +4,8 @@ pub mod Bases
 pub mod Shapes
 pub mod Places
 pub mod KnownCells
-pub mod CoveredRows
-pub mod ResultSteps
+pub mod StepRows
+pub mod RowResults
 pub mod Words
 pub mod BinRows
 pub mod PlainRows
