@@ -1,4 +1,3 @@
 -- The lemmas of this crate, one subject a file.
-pub mod RowLemmas
 pub mod TableLemmas
 pub mod Soundness

@@ -13,10 +13,13 @@ use Rattle.word_program.specs.Values.{input_word, input_bounds, word_bounds, Are
 use Rattle.word_program.specs.Values.{op_words, values_on, op_bits}
 use Rattle.word_program.specs.Accepted.{AreBounds, IsParam, IsOperand, IsOp, AreOps, HasShift, IsAccepted}
 use Rattle.word_program.proofs.InputWords.{IsInputWord, all_bounds, input_within}
-use Rattle.bounds.specs.declared.interval.Interval.{Interval}
-use Rattle.bounds.specs.Intervals.{full, between, operand_interval, op_intervals, intervals_of}
-use Rattle.bounds.specs.Soundness.{IsOrdered, HoldValues}
-use Rattle.bounds.proofs.TableLemmas.{Lies, LieAll, lies_in, lies_at, lie_append, row}
+use Rattle.bounds.specs.Intervals.{between, operand_interval, op_intervals, intervals_of}
+use Rattle.bounds.specs.Soundness.{HoldValues}
+use Rattle.bounds.proofs.TableLemmas.{LieAll, lies_in, lies_at, lie_append, row}
+use Rattle.intervals.specs.declared.interval.Interval.{Interval}
+use Rattle.intervals.specs.Intervals.{full}
+use Rattle.intervals.specs.Soundness.{IsOrdered}
+use Rattle.intervals.proofs.Lies.{Lies}
 
 -- a word of an input parameter lies within its bounds
 input_lies : (ps : List Param) (xs : List ℕ) → AreWithin xs (input_bounds ps) → AllByRecursion IsParam ps

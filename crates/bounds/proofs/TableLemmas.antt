@@ -13,55 +13,12 @@ use Rattle.word_operations.specs.declared.kind.Kind.TheVariants.{AddCarry, SubBo
 use Rattle.word_operations.specs.declared.kind.Kind.TheVariants.{Or, Xor, Not, Copy, Shl, Shr, Shrd}
 use Rattle.word_operations.specs.Operations.{results_on}
 use Rattle.word_program.specs.Accepted.{HasShift}
-use Rattle.bounds.specs.declared.interval.Interval.{Interval}
-use Rattle.bounds.specs.Intervals.{full, window, floors, fitting, ones, intervals_on}
-use Rattle.bounds.specs.Soundness.{LieIn, AreLeastOnes}
-
--- ---- a word in an interval
-
-pub record Lies (v : ℕ) (i : Interval) : Type 0 where
-  pub low : i.low ≤ v
-  pub high : v ≤ i.high
-  pub word : i.high < 2 ^ 64
-
-lies_full : (v : ℕ) → v < 2 ^ 64 → Lies v full
-lies_full v h = record { low = omega arith; high = omega arith; word = omega arith }
-
-window_by : (b : Bool) (low high v : ℕ) → (low / 2 ^ 64 == high / 2 ^ 64) ≡ b → low ≤ v → v ≤ high
-    → Lies (v % 2 ^ 64) (if b then record { low = low % 2 ^ 64; high = high % 2 ^ 64 } else full)
-window_by true low high v e l h = let q : low / 2 ^ 64 ≡ high / 2 ^ 64 = grind (arith, nat_tests, e) in
-    record { low = omega arith; high = omega arith; word = omega arith }
-window_by false low high v e l h = lies_full _ (omega arith)
-
-window_lies : (low high v : ℕ) → low ≤ v → v ≤ high → Lies (v % 2 ^ 64) (window low high)
-window_lies low high v l h = window_by (low / 2 ^ 64 == high / 2 ^ 64) low high v refl l h
-
-floors_lies : (low high v : ℕ) → low ≤ v → v ≤ high → high < 2 ^ 64 * 2 ^ 64 → Lies (v / 2 ^ 64) (floors low high)
-floors_lies low high v l h w = record { low = omega arith; high = omega arith; word = omega arith }
-
-fitting_by : (a b : Bool) (low high v : ℕ) → nat_lt low (2 ^ 64) ≡ a → nat_lt high (2 ^ 64) ≡ b → low ≤ v → v ≤ high
-    → Lies (v % 2 ^ 64) (if a && b then record { low = low; high = high } else full)
-fitting_by true true low high v d e l h = let q : high < 2 ^ 64 = grind (arith, nat_tests, e) in
-    record { low = omega arith; high = omega arith; word = q }
-fitting_by true false low high v d e l h = lies_full _ (omega arith)
-fitting_by false b low high v d e l h = lies_full _ (omega arith)
-
-fitting_lies : (low high v : ℕ) → low ≤ v → v ≤ high → Lies (v % 2 ^ 64) (fitting low high)
-fitting_lies low high v l h = fitting_by (nat_lt low (2 ^ 64)) (nat_lt high (2 ^ 64)) low high v refl refl l h
-
--- one of two words
-either_lies : (b : Bool) (x y : ℕ) (i j : Interval) → Lies x i → Lies y j
-    → Lies (if b then x else y) (record { low = min i.low j.low; high = max i.high j.high })
-either_lies true x y i j h g = record {
-  low = omega (arith, h.low);
-  high = omega (arith, h.high);
-  word = omega (arith, h.word, g.word);
-}
-either_lies false x y i j h g = record {
-  low = omega (arith, g.low);
-  high = omega (arith, g.high);
-  word = omega (arith, h.word, g.word);
-}
+use Rattle.bounds.specs.Intervals.{intervals_on}
+use Rattle.bounds.specs.Soundness.{LieIn}
+use Rattle.intervals.specs.declared.interval.Interval.{Interval}
+use Rattle.intervals.specs.Intervals.{full}
+use Rattle.intervals.proofs.Lies.{Lies, lies_full, window_lies, floors_lies, fitting_lies, either_lies, product_low_lies}
+use Rattle.intervals.proofs.Lies.{product_high_lies, bits_and_lies, bits_or_lies, bits_xor_lies, shifted_right_lies}
 
 bit_le : (p q : Bool) → (p ≡ true → q ≡ true) → (if p then 1 else 0) ≤ (if q then 1 else 0)
 bit_le true q h = rw (h refl) (omega arith)
@@ -84,30 +41,7 @@ borrow_lies a s low high lows highs l h ls hs = record {
   word = bit_word (nat_le highs low);
 }
 
--- ---- digits
-
--- a word at most n has at most the digits of n
-digits_below : (x n : ℕ) → x ≤ n → n < 2 ^ 64 → x < 2 ^ (64 - leading_zeros w64 n)
-digits_below x n h w = let l = leading_length 64 n w in let e : 64 - leading_zeros w64 n ≡ l.0 = omega (arith, l.1) in
-    rw e (omega (arith, l.2))
-
-ones_word : (n : ℕ) → ones n < 2 ^ 64
-ones_word n = let p : 2 ^ (64 - leading_zeros w64 n) ≤ 2 ^ 64 =
-    pow_mono {i = 64 - leading_zeros w64 n} {j = 64} (omega arith) in
-    omega (arith, p, pow_pos (64 - leading_zeros w64 n))
-
--- a word below a power of two is at most so many ones
-below_ones : (x m : ℕ) → x < 2 ^ m → x ≤ 2 ^ m - 1
-below_ones x m h = omega (arith, h)
-
-digits_of_left : {a b : ℕ} {i j : Interval} → Lies a i → Lies b j → a < 2 ^ (64 - leading_zeros w64 (max i.high j.high))
-digits_of_left {a} {b} {i} {j} f g = digits_below a (max i.high j.high) (omega (arith, f.high))
-    (omega (arith, f.word, g.word))
-
-digits_of_right : {a b : ℕ} {i j : Interval} → Lies a i → Lies b j
-    → b < 2 ^ (64 - leading_zeros w64 (max i.high j.high))
-digits_of_right {a} {b} {i} {j} f g = digits_below b (max i.high j.high) (omega (arith, g.high))
-    (omega (arith, f.word, g.word))
+-- ---- two words as one
 
 shrd_at : (lo hi k m : ℕ) → k + m ≡ 64 → lo < 2 ^ 64 → lo / 2 ^ k + (hi * 2 ^ m) % 2 ^ 64 < 2 ^ 64
 shrd_at lo hi k m e w =
@@ -180,44 +114,14 @@ row SubBorrow t c a b i j k f g h = (
     tt,
   ),
 )
-row MulX t a b z i j k f g h =
-    let l : i.low * j.low ≤ a * b = mul-le i.low j.low a b f.low g.low in
-    let u : a * b ≤ i.high * j.high = mul-le a b i.high j.high f.high g.high in
-    (fitting_lies _ _ _ l u, (floors_lies _ _ _ l u (mul-lt i.high j.high (2 ^ 64) (2 ^ 64) f.word g.word), tt))
+row MulX t a b z i j k f g h = (product_low_lies a b i j f g, (product_high_lies a b i j f g, tt))
 row CMov t c z nz i j k f g h = (either_lies (c == 0) z nz j k g h, tt)
 row Add t a b z i j k f g h = (window_lies _ _ _ (omega (arith, f.low, g.low)) (omega (arith, f.high, g.high)), tt)
 row Sub t a b z i j k f g h = (window_lies _ _ _ (omega (arith, f.low, g.high)) (omega (arith, f.high, g.low)), tt)
-row Mul t a b z i j k f g h = (
-  fitting_lies _ _ _ (mul-le i.low j.low a b f.low g.low)
-      (mul-le a b i.high j.high f.high g.high),
-  tt,
-)
-row And t a b z i j k f g h = (
-  record {
-    low = omega arith;
-    high = omega (arith, and_le_l a b, and_le_r a b, f.high, g.high);
-    word = omega (arith, f.word, g.word);
-  },
-  tt,
-)
-row Or t a b z i j k f g h = (
-  record {
-    low = omega (arith, le_or_l a b, le_or_r a b, f.low, g.low);
-    high = below_ones _ (64 - leading_zeros w64 (max i.high j.high))
-        (or_lt (64 - leading_zeros w64 (max i.high j.high)) a b (digits_of_left f g) (digits_of_right f g));
-    word = ones_word (max i.high j.high);
-  },
-  tt,
-)
-row Xor t a b z i j k f g h = (
-  record {
-    low = omega arith;
-    high = below_ones _ (64 - leading_zeros w64 (max i.high j.high))
-        (xor_lt (64 - leading_zeros w64 (max i.high j.high)) a b (digits_of_left f g) (digits_of_right f g));
-    word = ones_word (max i.high j.high);
-  },
-  tt,
-)
+row Mul t a b z i j k f g h = (product_low_lies a b i j f g, tt)
+row And t a b z i j k f g h = (bits_and_lies a b i j f g, tt)
+row Or t a b z i j k f g h = (bits_or_lies a b i j f g, tt)
+row Xor t a b z i j k f g h = (bits_xor_lies a b i j f g, tt)
 row Not t a y z i j k f g h = (
   record { low = omega (arith, f.high); high = omega (arith, f.low); word = omega arith },
   tt,
@@ -228,36 +132,5 @@ row (Shl count) t a y z i j k f g h = (
       (mul-le a (2 ^ count) i.high (2 ^ count) f.high (omega arith)),
   tt,
 )
-row (Shr count) t a y z i j k f g h = (
-  record {
-    low = shr_mono count f.low;
-    high = shr_mono count f.high;
-    word = omega (arith, shr_le i.high count, f.word);
-  },
-  tt,
-)
+row (Shr count) t a y z i j k f g h = (shifted_right_lies a count i f, tt)
 row (Shrd count) t lo hi z i j k f g h = (lies_full _ (shrd_fits lo hi count (omega (arith, f.high, f.word)) t.1), tt)
-
--- ---- ones
-
-digits_by : (b : Bool) (word j m : ℕ) → nat_le m j ≡ b → 2 ^ m ≤ 2 * word + 1 → word ≤ 2 ^ j - 1 → 2 ^ m - 1 ≤ 2 ^ j - 1
-digits_by true word j m e u h = let q : m ≤ j = grind (arith, nat_tests, e) in omega (arith, pow_mono {i = m} {j = j} q)
-digits_by false word j m e u h =
-    let q : j + 1 ≤ m = grind (arith, nat_tests, e) in
-    let p : 2 ^ (j + 1) ≤ 2 ^ m = pow_mono {i = j + 1} {j = m} q in
-    let s : 2 ^ (j + 1) ≡ 2 ^ j * 2 ^ 1 = pow-add 2 j 1 in
-    omega (arith, p, s, u, h, pow_pos j)
-
--- ones that are at least the word are at least as many as its digits
-digits_least : (word j : ℕ) → word < 2 ^ 64 → word ≤ 2 ^ j - 1 → ones word ≤ 2 ^ j - 1
-digits_least word j w h =
-    let l = leading_length 64 word w in
-    let e : 64 - leading_zeros w64 word ≡ l.0 = omega (arith, l.1) in
-    rw e (digits_by (nat_le l.0 j) word j l.0 refl l.3 h)
-
-pub least_ones : (word : ℕ) → word < 2 ^ 64 → AreLeastOnes word (ones word)
-least_ones word w = record {
-  above = below_ones word (64 - leading_zeros w64 word) (digits_below word word (omega arith) w);
-  ones = (64 - leading_zeros w64 word, refl);
-  least = λ j h. digits_least word j w h;
-}

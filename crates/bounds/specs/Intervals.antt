@@ -2,7 +2,6 @@
 -- operands. An interval has both of its ends.
 use Rattle.std.specs.Prelude.{ℕ, ◌+◌, ◌-◌, ◌*◌, ◌/◌, ◌%◌, ◌^◌, ◌&&◌, ◌==◌, nat_lt, nat_le, min, max, List, [], ◌∷◌}
 use Rattle.std.specs.Prelude.{◌++◌, map, fold, slice_index_or, if◌then◌else◌}
-use Rattle.std.specs.Int.{w64, leading_zeros}
 use Rattle.word_program.specs.declared.parameter.Bounds.{Bounds}
 use Rattle.word_program.specs.declared.parameter.Param.{Param}
 use Rattle.word_program.specs.declared.operation.Op.{Op}
@@ -13,29 +12,9 @@ use Rattle.word_program.specs.declared.operation.Operand.{Operand}
 use Rattle.word_program.specs.declared.operation.Operand.TheVariants as operands
 use Rattle.word_program.specs.Program.{Source}
 use Rattle.word_program.specs.Values.{word_bounds}
-use Rattle.bounds.specs.declared.interval.Interval.{Interval}
-
--- ---- words between two numbers
-
--- every word
-abbrev pub full : Interval
-full = record { low = 0; high = 2 ^ 64 - 1 }
-
--- the numbers from low to high modulo 2^64, where no multiple of 2^64 parts them, and else every word
-abbrev pub window : ℕ → ℕ → Interval
-window low high = if low / 2 ^ 64 == high / 2 ^ 64 then record { low = low % 2 ^ 64; high = high % 2 ^ 64 } else full
-
--- the floors of the numbers from low to high divided by 2^64
-abbrev pub floors : ℕ → ℕ → Interval
-floors low high = record { low = low / 2 ^ 64; high = high / 2 ^ 64 }
-
--- the numbers from low to high, where both are words, and else every word
-abbrev pub fitting : ℕ → ℕ → Interval
-fitting low high = if nat_lt low (2 ^ 64) && nat_lt high (2 ^ 64) then record { low = low; high = high } else full
-
--- the least number of ones in binary that is at least the word: as many ones as the word has digits
-abbrev pub ones : ℕ → ℕ
-ones word = 2 ^ (64 - leading_zeros w64 word) - 1
+use Rattle.intervals.specs.declared.interval.Interval.{Interval}
+use Rattle.intervals.specs.Intervals.{full, window, floors, fitting, product_low, product_high, bits_and, bits_or, bits_xor}
+use Rattle.intervals.specs.Intervals.{shifted_right, choice}
 
 -- ---- the table
 
@@ -54,18 +33,18 @@ intervals_on SubBorrow c a b =
           0 else 1;
     }
     ∷ []
-intervals_on MulX a b z = fitting (a.low * b.low) (a.high * b.high) ∷ floors (a.low * b.low) (a.high * b.high) ∷ []
-intervals_on CMov c z nz = record { low = min z.low nz.low; high = max z.high nz.high } ∷ []
+intervals_on MulX a b z = product_low a b ∷ product_high a b ∷ []
+intervals_on CMov c z nz = choice z nz ∷ []
 intervals_on Add a b z = window (a.low + b.low) (a.high + b.high) ∷ []
 intervals_on Sub a b z = window (a.low + 2 ^ 64 - b.high) (a.high + 2 ^ 64 - b.low) ∷ []
-intervals_on Mul a b z = fitting (a.low * b.low) (a.high * b.high) ∷ []
-intervals_on And a b z = record { low = 0; high = min a.high b.high } ∷ []
-intervals_on Or a b z = record { low = max a.low b.low; high = ones (max a.high b.high) } ∷ []
-intervals_on Xor a b z = record { low = 0; high = ones (max a.high b.high) } ∷ []
+intervals_on Mul a b z = product_low a b ∷ []
+intervals_on And a b z = bits_and a b ∷ []
+intervals_on Or a b z = bits_or a b ∷ []
+intervals_on Xor a b z = bits_xor a b ∷ []
 intervals_on Not a y z = record { low = 2 ^ 64 - 1 - a.high; high = 2 ^ 64 - 1 - a.low } ∷ []
 intervals_on Copy a y z = a ∷ []
 intervals_on (Shl k) a y z = fitting (a.low * 2 ^ k) (a.high * 2 ^ k) ∷ []
-intervals_on (Shr k) a y z = record { low = a.low / 2 ^ k; high = a.high / 2 ^ k } ∷ []
+intervals_on (Shr k) a y z = shifted_right a k ∷ []
 intervals_on (Shrd k) lo hi z = full ∷ []
 
 -- the intervals of the results of an operation of this kind

@@ -3,11 +3,13 @@ ghost use Rattle.std.specs.List.{AllByRecursion};
 ghost use Rattle.word_program.specs.Program as programs;
 ghost use Rattle.word_program.specs.Values.{word_bounds};
 ghost use Rattle.word_program.specs.Accepted.{HasShift};
-ghost use Rattle.bounds.specs.Intervals.{full, between, operand_interval, op_intervals, intervals_of};
-ghost use Rattle.bounds.specs.Soundness.{IsOrdered, HoldValues};
+ghost use Rattle.bounds.specs.Intervals.{between, operand_interval, op_intervals, intervals_of};
+ghost use Rattle.intervals.specs.Intervals.{full};
+ghost use Rattle.bounds.specs.Soundness.{HoldValues};
+ghost use Rattle.intervals.specs.Soundness.{IsOrdered};
 
-use crate::interval::Interval;
-use crate::{interval, rows};
+use crate::rows;
+use intervals::Interval;
 use std::alloc::{AllocError, Global};
 use word_program::{Bounds, Op, Operand, Param, Program};
 
@@ -16,8 +18,8 @@ fn bounds_at(bounds: &[Bounds], word: usize) -> Interval
     ensures { result ≡ between (slice_index_or bounds.now word programs.full) }
 {
     match bounds.get(word) {
-        Some(bounds) => interval::between(bounds.low, bounds.high),
-        None => interval::full(),
+        Some(bounds) => intervals::between(bounds.low, bounds.high),
+        None => intervals::full(),
     }
 }
 
@@ -26,7 +28,7 @@ fn word_interval(params: &[Param], param: usize, word: usize) -> Interval
 {
     match params.get(param) {
         Some(param) => bounds_at(param.bounds.items(), word),
-        None => interval::full(),
+        None => intervals::full(),
     }
 }
 
@@ -34,11 +36,11 @@ fn operand_interval(params: &[Param], list: &[Interval], operand: &Operand) -> I
     ensures { result ≡ operand_interval params.now list.now operand.now }
 {
     match *operand {
-        Operand::Literal(word) => interval::between(word, word),
+        Operand::Literal(word) => intervals::between(word, word),
         Operand::Input { param, word } => word_interval(params, param as usize, word as usize),
         Operand::Value(number) => match list.get(number as usize) {
             Some(interval) => *interval,
-            None => interval::full(),
+            None => intervals::full(),
         },
     }
 }
@@ -49,7 +51,7 @@ fn argument(params: &[Param], list: &[Interval], args: &[Operand], place: usize)
 {
     match args.get(place) {
         Some(operand) => operand_interval(params, list, operand),
-        None => interval::full(),
+        None => intervals::full(),
     }
 }
 

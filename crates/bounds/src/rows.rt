@@ -1,20 +1,20 @@
 ghost use Rattle.std.specs.Prelude.{◌≡◌, ◌≤◌, ◌+◌, ◌-◌, ◌*◌, ◌/◌, ◌^◌, ◌++◌, [], ◌∷◌, nat_lt, nat_le, min, max, OnOk};
 ghost use Rattle.std.specs.Prelude.{if◌then◌else◌};
 ghost use Rattle.word_program.specs.Accepted.{HasShift};
-ghost use Rattle.bounds.specs.Intervals.{window, floors, fitting, ones, intervals_on};
+ghost use Rattle.bounds.specs.Intervals.{intervals_on};
+ghost use Rattle.intervals.specs.Intervals.{window, floors, fitting};
 
-use crate::interval;
-use crate::interval::{Interval, WORDS};
 use std::alloc::AllocError;
 use word_program::Kind;
+use intervals::{Interval, WORDS};
 
 /// Of `a + b + c`: the sum modulo 2^64.
 fn sum(a: Interval, b: Interval, c: Interval) -> Interval
     ensures { result ≡ window (a.low + b.low + c.low) (a.high + b.high + c.high) }
 {
-    interval::window(
-        interval::sum(a.low, b.low, c.low),
-        interval::sum(a.high, b.high, c.high),
+    intervals::window(
+        intervals::sum(a.low, b.low, c.low),
+        intervals::sum(a.high, b.high, c.high),
     )
 }
 
@@ -22,9 +22,9 @@ fn sum(a: Interval, b: Interval, c: Interval) -> Interval
 fn carry(a: Interval, b: Interval, c: Interval) -> Interval
     ensures { result ≡ floors (a.low + b.low + c.low) (a.high + b.high + c.high) }
 {
-    interval::floors(
-        interval::sum(a.low, b.low, c.low),
-        interval::sum(a.high, b.high, c.high),
+    intervals::floors(
+        intervals::sum(a.low, b.low, c.low),
+        intervals::sum(a.high, b.high, c.high),
     )
 }
 
@@ -32,9 +32,9 @@ fn carry(a: Interval, b: Interval, c: Interval) -> Interval
 fn difference(a: Interval, b: Interval, c: Interval) -> Interval
     ensures { result ≡ window (a.low + 2 * 2 ^ 64 - (b.high + c.high)) (a.high + 2 * 2 ^ 64 - (b.low + c.low)) }
 {
-    interval::window(
-        interval::difference(a.low, b.high, c.high),
-        interval::difference(a.high, b.low, c.low),
+    intervals::window(
+        intervals::difference(a.low, b.high, c.high),
+        intervals::difference(a.high, b.low, c.low),
     )
 }
 
@@ -57,7 +57,7 @@ fn borrow(a: Interval, b: Interval, c: Interval) -> Interval
 fn word_sum(a: Interval, b: Interval) -> Interval
     ensures { result ≡ window (a.low + b.low) (a.high + b.high) }
 {
-    interval::window(
+    intervals::window(
         a.low as u128 + b.low as u128,
         a.high as u128 + b.high as u128,
     )
@@ -67,7 +67,7 @@ fn word_sum(a: Interval, b: Interval) -> Interval
 fn word_difference(a: Interval, b: Interval) -> Interval
     ensures { result ≡ window (a.low + 2 ^ 64 - b.high) (a.high + 2 ^ 64 - b.low) }
 {
-    interval::window(
+    intervals::window(
         a.low as u128 + WORDS - b.high as u128,
         a.high as u128 + WORDS - b.low as u128,
     )
@@ -78,40 +78,10 @@ fn shifted(a: Interval, count: u8) -> Interval
     requires { count ≤ 63 }
     ensures { result ≡ fitting (a.low * 2 ^ count) (a.high * 2 ^ count) }
 {
-    interval::fitting(
-        interval::shifted(a.low, count),
-        interval::shifted(a.high, count),
+    intervals::fitting(
+        intervals::shifted(a.low, count),
+        intervals::shifted(a.high, count),
     )
-}
-
-/// Of `a * b`: the low word.
-fn low_product(a: Interval, b: Interval) -> Interval
-    ensures { result ≡ fitting (a.low * b.low) (a.high * b.high) }
-{
-    interval::fitting(
-        interval::product(a.low, b.low),
-        interval::product(a.high, b.high),
-    )
-}
-
-/// Of `a * b`: the high word.
-fn high_product(a: Interval, b: Interval) -> Interval
-    ensures { result ≡ floors (a.low * b.low) (a.high * b.high) }
-{
-    interval::floors(
-        interval::product(a.low, b.low),
-        interval::product(a.high, b.high),
-    )
-}
-
-/// Of two words of which one is taken.
-fn either(a: Interval, b: Interval) -> Interval
-    ensures { result ≡ record { low = min a.low b.low; high = max a.high b.high } }
-{
-    Interval {
-        low: a.low.min(b.low),
-        high: a.high.max(b.high),
-    }
 }
 
 fn push_one(list: &mut Vec<Interval>, first: Interval) -> Result<(), AllocError>
@@ -144,24 +114,18 @@ pub fn push_results(
     match kind {
         Kind::AddCarry => push_two(list, sum(a, b, c), carry(a, b, c)),
         Kind::SubBorrow => push_two(list, difference(b, c, a), borrow(b, c, a)),
-        Kind::MulX => push_two(list, low_product(a, b), high_product(a, b)),
-        Kind::CMov => push_one(list, either(b, c)),
+        Kind::MulX => push_two(list, intervals::product_low(a, b), intervals::product_high(a, b)),
+        Kind::CMov => push_one(list, intervals::choice(b, c)),
         Kind::Add => push_one(list, word_sum(a, b)),
         Kind::Sub => push_one(list, word_difference(a, b)),
-        Kind::Mul => push_one(list, low_product(a, b)),
-        Kind::And => push_one(list, interval::between(0, a.high.min(b.high))),
-        Kind::Or => push_one(
-            list,
-            interval::between(a.low.max(b.low), interval::ones(a.high.max(b.high))),
-        ),
-        Kind::Xor => push_one(
-            list,
-            interval::between(0, interval::ones(a.high.max(b.high))),
-        ),
-        Kind::Not => push_one(list, interval::between(u64::MAX - a.high, u64::MAX - a.low)),
+        Kind::Mul => push_one(list, intervals::product_low(a, b)),
+        Kind::And => push_one(list, intervals::bits_and(a, b)),
+        Kind::Or => push_one(list, intervals::bits_or(a, b)),
+        Kind::Xor => push_one(list, intervals::bits_xor(a, b)),
+        Kind::Not => push_one(list, intervals::between(u64::MAX - a.high, u64::MAX - a.low)),
         Kind::Copy => push_one(list, a),
         Kind::Shl(count) => push_one(list, shifted(a, count)),
-        Kind::Shr(count) => push_one(list, interval::between(a.low >> count, a.high >> count)),
-        Kind::Shrd(_) => push_one(list, interval::full()),
+        Kind::Shr(count) => push_one(list, intervals::shifted_right(a, count)),
+        Kind::Shrd(_) => push_one(list, intervals::full()),
     }
 }

@@ -7,6 +7,11 @@ pub record IsBetween (i : Interval) (word : ℕ) : Type 0 where
   pub low : i.low ≤ word
   pub high : word ≤ i.high
 
+-- the word lies in the interval, whose ends are words
+pub record Holds (i : Interval) (word : ℕ) : Type 0 where
+  pub between : IsBetween i word
+  pub ends : i.high < 2 ^ 64
+
 -- its low end is not above its high end, so a word lies in it
 abbrev pub IsOrdered : Interval → Type 0
 IsOrdered i = i.low ≤ i.high

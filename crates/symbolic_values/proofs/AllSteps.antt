@@ -22,8 +22,8 @@ use Rattle.symbolic_values.proofs.BinRows.{bin_row}
 use Rattle.symbolic_values.proofs.Fetches.{const_fetches, rm_fetches, src_fetches}
 use Rattle.symbolic_values.proofs.LaterTables.{fits_touch, fits_write}
 use Rattle.symbolic_values.proofs.PlainRows.{clc_row, lea_row, test_row, un_row}
-use Rattle.symbolic_values.proofs.Results.{agrees_written, written}
-use Rattle.symbolic_values.proofs.Rows.{Row, grows_not}
+use Rattle.symbolic_values.proofs.RowResults.{agrees_written, written}
+use Rattle.symbolic_values.proofs.StepRows.{Row, grows_not}
 use Rattle.symbolic_values.proofs.StoreRow.{store_whole}
 use Rattle.symbolic_values.proofs.Wholes.{Whole, row_whole, source_whole, stuck_whole}
 

@@ -21,8 +21,8 @@ use Rattle.symbolic_values.specs.Steps.{arithmetic, bin_step, minus, plus, sum}
 use Rattle.symbolic_values.specs.Fitting.{IsBit, FitsTable}
 use Rattle.symbolic_values.specs.Covering.{FlagAgrees}
 use Rattle.symbolic_values.proofs.LaterTables.{node_inside}
-use Rattle.symbolic_values.proofs.Results.{arithmetic_row, logic_row}
-use Rattle.symbolic_values.proofs.Rows.{Run, Agreed, Row, flag_row}
+use Rattle.symbolic_values.proofs.RowResults.{arithmetic_row, logic_row}
+use Rattle.symbolic_values.proofs.StepRows.{Run, Agreed, Row, flag_row}
 use Rattle.symbolic_values.proofs.Words.{added, added_with, bit_small, borrowed, borrowed_one, borrowed_with, carried}
 use Rattle.symbolic_values.proofs.Words.{carried_two, compared, subtracted, subtracted_with}
 

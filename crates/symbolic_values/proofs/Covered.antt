@@ -12,8 +12,8 @@ use Rattle.symbolic_values.specs.Steps.{step_of}
 use Rattle.symbolic_values.specs.Fitting.{FitsTable}
 use Rattle.symbolic_values.specs.Covering.{Covers}
 use Rattle.symbolic_values.proofs.AllSteps.{step_whole}
-use Rattle.symbolic_values.proofs.Results.{agrees_touch}
-use Rattle.symbolic_values.proofs.Rows.{IsPlain, Run}
+use Rattle.symbolic_values.proofs.RowResults.{agrees_touch}
+use Rattle.symbolic_values.proofs.StepRows.{IsPlain, Run}
 use Rattle.symbolic_values.proofs.StepTables.{touch_shape}
 use Rattle.symbolic_values.proofs.Wholes.{StepsIn}
 

@@ -31,7 +31,7 @@ use Rattle.symbolic_values.proofs.KnownCells.{node_known}
 use Rattle.symbolic_values.proofs.LaterTables.{node_inside}
 use Rattle.symbolic_values.proofs.Named.{is_named}
 use Rattle.symbolic_values.proofs.PlainRows.{address_fits, address_is}
-use Rattle.symbolic_values.proofs.Rows.{Run, Agreed, Grows, Shaped, Valued, grows_not, makes}
+use Rattle.symbolic_values.proofs.StepRows.{Run, Agreed, Grows, Shaped, Valued, grows_not, makes}
 
 -- the machine's source has the node's word, and accesses the cell that the state tells
 pub record Reads (r : Run) (word : Option ℕ) (cell : Touched) (w : Word) : Type 0 where

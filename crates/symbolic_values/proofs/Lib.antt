@@ -1,12 +1,23 @@
 -- The lemmas of this crate, one subject a file.
+pub mod Made
+pub mod ResultRows
+pub mod Growing
+pub mod SourceRows
+pub mod SourceTables
+pub mod ProgramNodes
+pub mod SourceStarts
+pub mod RowValues
+pub mod SourceValues
+pub mod SourceOutputs
+pub mod FormSteps
 pub mod MadeFacts
 pub mod LaterTables
 pub mod Bases
 pub mod Shapes
 pub mod Places
 pub mod KnownCells
-pub mod Rows
-pub mod Results
+pub mod StepRows
+pub mod RowResults
 pub mod Words
 pub mod BinRows
 pub mod PlainRows
@@ -19,3 +30,4 @@ pub mod AllSteps
 pub mod AtStart
 pub mod StepTables
 pub mod Covered
+pub mod StartsAgree

@@ -9,7 +9,7 @@ use Rattle.symbolic_values.specs.Symbols.{Symbols}
 use Rattle.symbolic_values.specs.Cells.{Base, Cell, base_of, cell_at, cell_named, touch_of}
 use Rattle.symbolic_values.proofs.Bases.{base_word}
 use Rattle.symbolic_values.proofs.Places.{cell_lies, touched_at}
-use Rattle.symbolic_values.proofs.Rows.{Run, Shaped, Valued, start_in}
+use Rattle.symbolic_values.proofs.StepRows.{Run, Shaped, Valued, start_in}
 
 -- the address is that of the cell, which lies in its area, and an access of the cell tells it
 pub record IsNamed (r : Run) (y : Symbols) (address : ℕ) (cell : Cell) : Type 0 where

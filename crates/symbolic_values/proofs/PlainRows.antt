@@ -22,9 +22,9 @@ use Rattle.symbolic_values.specs.Fitting.{FitsTable}
 use Rattle.symbolic_values.proofs.MadeFacts.{made_bit}
 use Rattle.symbolic_values.proofs.BinRows.{terms_below, numbers_below}
 use Rattle.symbolic_values.proofs.LaterTables.{fits_flags, fits_table_later, node_inside}
-use Rattle.symbolic_values.proofs.Results.{agrees_written, arithmetic_row, logic_row, result_row}
-use Rattle.symbolic_values.proofs.Results.{written}
-use Rattle.symbolic_values.proofs.Rows.{Run, Agreed, Row, makes, row_on, start_in, stuck_row}
+use Rattle.symbolic_values.proofs.RowResults.{agrees_written, arithmetic_row, logic_row, result_row}
+use Rattle.symbolic_values.proofs.RowResults.{written}
+use Rattle.symbolic_values.proofs.StepRows.{Run, Agreed, Row, makes, row_on, start_in, stuck_row}
 use Rattle.symbolic_values.proofs.Words.{borrowed_nought, complemented, negated}
 
 -- ---- addresses

@@ -31,7 +31,7 @@ use Rattle.symbolic_values.specs.Steps.{fetched_const, goes, logic, minus, neg_s
 use Rattle.symbolic_values.specs.Steps.{result_only}
 use Rattle.symbolic_values.specs.Steps.{rm_fetched, src_fetched, step_from, step_of, store_step, stuck, sum, un_step}
 use Rattle.symbolic_values.specs.Fitting.{HasShape, HaveShapes}
-use Rattle.symbolic_values.proofs.Results.{SameMemory, same_written}
+use Rattle.symbolic_values.proofs.RowResults.{SameMemory, same_written}
 use Rattle.symbolic_values.proofs.Stored.{is_stored}
 
 -- ---- tables

@@ -31,8 +31,8 @@ use Rattle.symbolic_values.proofs.KnownCells.{node_within}
 use Rattle.symbolic_values.proofs.LaterTables.{fits_table_later, fits_touch, node_inside}
 use Rattle.symbolic_values.proofs.Named.{IsNamed, is_named}
 use Rattle.symbolic_values.proofs.PlainRows.{address_fits, address_is}
-use Rattle.symbolic_values.proofs.Results.{agrees_touch}
-use Rattle.symbolic_values.proofs.Rows.{Run, Agreed, Shaped, makes}
+use Rattle.symbolic_values.proofs.RowResults.{agrees_touch}
+use Rattle.symbolic_values.proofs.StepRows.{Run, Agreed, Shaped, makes}
 use Rattle.symbolic_values.proofs.Stored.{Kept, Here, Beside, Apart, IsStored, is_stored}
 use Rattle.symbolic_values.proofs.Wholes.{StepsIn, Whole}
 

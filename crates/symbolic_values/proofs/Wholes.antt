@@ -14,9 +14,9 @@ use Rattle.symbolic_values.specs.Fitting.{FitsTable}
 use Rattle.symbolic_values.specs.Covering.{IsWritable, Steps, TouchAgrees}
 use Rattle.symbolic_values.proofs.Fetches.{Fetches, Reads}
 use Rattle.symbolic_values.proofs.LaterTables.{fits_table_later, fits_touch}
-use Rattle.symbolic_values.proofs.Results.{agrees_touch}
-use Rattle.symbolic_values.proofs.Rows.{Run, Agreed, Goes, Grows, Row, Shaped, Valued, grows_not}
-use Rattle.symbolic_values.proofs.Rows.{grows_on, valued_front}
+use Rattle.symbolic_values.proofs.RowResults.{agrees_touch}
+use Rattle.symbolic_values.proofs.StepRows.{Run, Agreed, Goes, Grows, Row, Shaped, Valued, grows_not}
+use Rattle.symbolic_values.proofs.StepRows.{grows_on, valued_front}
 
 -- the step of the instruction that is told in a run
 abbrev pub StepsIn : Run → Instr → State → Symbols → Type 0

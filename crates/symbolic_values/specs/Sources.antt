@@ -1,6 +1,6 @@
 -- The nodes of a program's values, in the order in which they are made: the starts of the registers, the input words,
 -- and then for each operation its operands and its results. And the symbolic state at the start of a listing.
-use Rattle.std.specs.Prelude.{ℕ, zero, suc, ◌+◌, ◌-◌, ◌/◌, ◌^◌, List, [], ◌∷◌, ◌++◌, length, map, fold, replicate, Option, Some}
+use Rattle.std.specs.Prelude.{◌≡◌, ℕ, zero, suc, ◌+◌, ◌-◌, ◌/◌, ◌^◌, List, [], ◌∷◌, ◌++◌, length, map, fold, replicate, Option, Some}
 use Rattle.std.specs.Prelude.{None, slice_index, slice_set, if◌then◌else◌}
 use Rattle.std.specs.List.{range_with_len}
 use Rattle.word_operations.specs.declared.kind.Kind.{Kind}
@@ -12,13 +12,15 @@ use Rattle.word_program.specs.declared.operation.Op.{Op}
 use Rattle.word_program.specs.declared.operation.Operand.{Operand}
 use Rattle.word_program.specs.declared.operation.Operand.TheVariants as operands
 use Rattle.word_program.specs.Program.{Source}
-use Rattle.word_program.specs.Values.{is_output, is_scalar, outputs_from, targets_of, word_bounds}
+use Rattle.word_program.specs.Values.{AreWithin, input_bounds, input_word, is_output, is_scalar, outputs_from, targets_of}
+use Rattle.word_program.specs.Values.{word_bounds}
 use Rattle.x86_instr.specs.Registers.{number_of}
 use Rattle.x86_meaning.specs.Start.{param_reg}
 use Rattle.terms.specs.declared.lists.Term.{Term}
 use Rattle.terms.specs.declared.nodes.Node.{Node}
 use Rattle.terms.specs.declared.nodes.Form.{Form}
 use Rattle.terms.specs.declared.nodes.Form.TheVariants as forms
+use Rattle.terms.specs.Meaning.{IsSound, IsValuation, Start}
 use Rattle.term_store.specs.Interning.{AllMade, made, made_all}
 use Rattle.symbolic_values.specs.Symbols.{Array, Symbols}
 use Rattle.symbolic_values.specs.Cells.{term}
@@ -109,6 +111,13 @@ source_made program = fold (and_op program.params)
 -- the nodes of the output words, in the order of the parameters
 unfoldable pub source_outputs : Source → List ℕ
 source_outputs program = outputs_from (targets_of program.ops) (source_made program).numbers 0 program.params
+
+-- `val` gives the program's nodes their words in a run on these inputs, which are within their bounds
+pub record IsRunOn (program : Source) (inputs : List ℕ) (start : Start) (val : ℕ → ℕ) : Type 0 where
+  pub within : AreWithin inputs (input_bounds program.params)
+  pub given : (param word : ℕ) → start.inputs param word ≡ input_word program.params inputs param word
+  pub valuation : IsValuation start (source_made program).table val
+  pub sound : IsSound (source_made program).table val
 
 -- ---- the start of a listing
 

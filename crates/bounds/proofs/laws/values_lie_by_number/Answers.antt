@@ -2,9 +2,10 @@
 use Rattle.std.proofs.Common.{ℕ, zero, suc, ◌<◌, List, [], ◌∷◌, length, arith}
 use Rattle.std.specs.Prelude.{slice_index, slice_index_or}
 use Rattle.base.proofs.Arithmetic.{not_below_zero}
-use Rattle.bounds.specs.declared.interval.Interval.{Interval}
-use Rattle.bounds.specs.Intervals.{full}
-use Rattle.bounds.specs.Soundness.{IsBetween, LieIn}
+use Rattle.intervals.specs.declared.interval.Interval.{Interval}
+use Rattle.intervals.specs.Intervals.{full}
+use Rattle.bounds.specs.Soundness.{LieIn}
+use Rattle.intervals.specs.Soundness.{IsBetween}
 use Rattle.bounds.proofs.laws.values_lie_by_number.Goals as goal
 
 by_number : (is : List Interval) (vs : List ℕ) → LieIn is vs → (n : ℕ) → n < length vs

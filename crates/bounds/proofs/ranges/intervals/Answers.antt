@@ -4,7 +4,8 @@ use Rattle.std.proofs.lemmas.Grind.{common_steps}
 use Rattle.std.specs.List.{AllByRecursion}
 use Rattle.word_program.specs.Accepted.{HasShift}
 use Rattle.bounds.specs.Intervals.{intervals_of}
-use Rattle.bounds.specs.Soundness.{IsOrdered, HoldValues}
+use Rattle.bounds.specs.Soundness.{HoldValues}
+use Rattle.intervals.specs.Soundness.{IsOrdered}
 use Rattle.bounds.proofs.Soundness.{intervals_hold, intervals_ordered, count_at}
 use Rattle.bounds.proofs.ranges.intervals.Goals as goal
 

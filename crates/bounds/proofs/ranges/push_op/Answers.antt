@@ -1,6 +1,7 @@
 -- The three operands of an operation are those at the places 0, 1 and 2.
 use Rattle.std.proofs.Common.{◌≡◌, map, slice_index_or, sym}
-use Rattle.bounds.specs.Intervals.{full, operand_interval, op_intervals}
+use Rattle.bounds.specs.Intervals.{operand_interval, op_intervals}
+use Rattle.intervals.specs.Intervals.{full}
 use Rattle.bounds.proofs.ranges.push_op.Goals as goal
 
 pub returns : goal.returns

@@ -23,8 +23,8 @@ use Rattle.symbolic_values.specs.Covering.{FlagAgrees}
 use Rattle.symbolic_values.proofs.MadeFacts.{made_bit}
 use Rattle.symbolic_values.proofs.LaterTables.{bit_later, fits_table_later, fits_flags, fits_write}
 use Rattle.symbolic_values.proofs.KnownCells.{same_nodes}
-use Rattle.symbolic_values.proofs.Rows.{Run, Agreed, Valued, IsPlain, Row, start_in}
-use Rattle.symbolic_values.proofs.Rows.{grows_on, makes, valued_front}
+use Rattle.symbolic_values.proofs.StepRows.{Run, Agreed, Valued, IsPlain, Row, start_in}
+use Rattle.symbolic_values.proofs.StepRows.{grows_on, makes, valued_front}
 
 -- ---- states of the machine
 

@@ -1,0 +1,10 @@
+-- Along the operations, and then by the place of each output word.
+use Rattle.symbolic_values.proofs.SourceOutputs.{outputs_words}
+use Rattle.symbolic_values.proofs.SourceValues.{source_words}
+use Rattle.symbolic_values.proofs.laws.source_nodes_have_values.Goals as goal
+
+pub returns-clause-values : goal.returns-clause-values
+returns-clause-values c = source_words
+
+pub returns-clause-outputs : goal.returns-clause-outputs
+returns-clause-outputs c = outputs_words
