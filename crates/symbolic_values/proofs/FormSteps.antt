@@ -1,6 +1,6 @@
 -- Forms that are made one after the other, from the next one on.
-use Rattle.std.proofs.Common.{◌≡◌, ℕ, suc, ◌+◌, ◌-◌, ◌<◌, List, [], ◌∷◌, ◌++◌, map, drop, get_or, length}
-use Rattle.std.proofs.Common.{ap, append_assoc, arith, refl, subst, sym, ◌∙◌, ◌≤◌}
+use Rattle.std.proofs.Common.{◌≡◌, ℕ, suc, ◌+◌, ◌-◌, ◌<◌, List, [], ◌∷◌, ◌++◌, map, drop, get_or, length, ap}
+use Rattle.std.proofs.Common.{append_assoc, arith, refl, subst, sym, ◌∙◌, ◌≤◌}
 use Rattle.std.proofs.lemmas.List.FromFn.{length-map-range_with_len}
 use Rattle.std.proofs.lemmas.List.{drop_more}
 use Rattle.std.specs.List.{AllByRecursion, range_with_len}
@@ -13,11 +13,12 @@ use Rattle.terms.specs.declared.nodes.Form.TheVariants as forms
 use Rattle.symbolic_values.specs.Sources.{inputs_from, operands_made, param_forms, start_forms}
 use Rattle.word_program.specs.Accepted.{IsParam}
 use Rattle.symbolic_values.specs.Fitting.{IsProgramForm}
-use Rattle.symbolic_values.proofs.Made.{made_most}
 use Rattle.symbolic_values.proofs.Growing.{Grows, grows_more}
 use Rattle.symbolic_values.proofs.SourceTables.{few_start_forms}
 use Rattle.symbolic_values.proofs.ProgramNodes.{start_grows}
 use Rattle.symbolic_values.proofs.SourceStarts.{all_made_table}
+use Rattle.term_store.proofs.Made.{made_below, made_most, made_prefix}
+use Rattle.term_store.proofs.Prefixes.{prefix_refl}
 
 range_step : (a e : ℕ) → a < e → range_with_len a (e - a) ≡ a ∷ range_with_len (a + 1) (e - (a + 1))
 range_step a e h = let n : e - a ≡ suc (e - (a + 1)) = omega arith in rw n refl
@@ -80,3 +81,6 @@ start_grown params all few t u w e f g =
     subst (Grows (IsProgramForm params) [] (16 + 192)) (sym (start_made params t u w e f g))
     (grows_more (IsProgramForm params) [] (made_all [] (start_forms params)).table (length (start_forms params))
     (16 + 192) (few_start_forms params all few) (start_grows params all))
+
+-- what is known of a form that is made
+pub ruleset made_facts = (prefix_refl, made_prefix, made_below, made_most)

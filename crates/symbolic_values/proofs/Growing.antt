@@ -1,19 +1,20 @@
 -- How a table grows by forms that are made one after the other.
-use Rattle.std.proofs.Common.{◌≡◌, ℕ, ◌+◌, ◌<◌, ◌≤◌, Bool, true, List, [], ◌∷◌, ◌++◌, length, map, refl, ap, ◌∙◌, subst, sym}
-use Rattle.std.proofs.Common.{arith, inl, inr, ⊎_elim, ◌⊎◌}
+use Rattle.std.proofs.Common.{◌≡◌, ℕ, ◌+◌, ◌≤◌, Bool, true, List, [], ◌∷◌, ◌++◌, length, map, refl, subst, sym, arith}
 use Rattle.std.specs.List.{AllByRecursion}
 use Rattle.terms.specs.declared.nodes.Node.{Node}
 use Rattle.terms.specs.declared.nodes.Form.{Form}
 use Rattle.terms.specs.declared.nodes.Form.TheVariants as forms
-use Rattle.terms.specs.Tables.{node_at, IsTable, Prefix}
+use Rattle.terms.specs.Tables.{IsTable, Prefix}
 use Rattle.terms.specs.Forms.{FormFits}
 use Rattle.terms.specs.Grown.{IsGrown}
 use Rattle.terms.specs.Meaning.{Admits, IsSound, IsValuation, Start, form_value}
-use Rattle.term_store.specs.Interning.{AllMade, made, made_all}
+use Rattle.term_store.specs.Interning.{made, made_all}
 use Rattle.symbolic_values.specs.Fitting.{AreNodesOf, IsNodeOf}
-use Rattle.symbolic_values.proofs.Made.{at_front, fits_later, made_below, made_low, made_grown, made_most, made_prefix}
-use Rattle.symbolic_values.proofs.Made.{made_table, made_value, prefix_length, prefix_refl, prefix_trans, sound_front}
-use Rattle.symbolic_values.proofs.Made.{valuation_front, MakesBit}
+use Rattle.term_store.proofs.Prefixes.{at_front, fits_later, prefix_length, prefix_refl, prefix_trans, sound_front}
+use Rattle.term_store.proofs.Prefixes.{valuation_front}
+use Rattle.term_store.proofs.Growth.{made_grown}
+use Rattle.term_store.proofs.Made.{made_below, made_most, made_prefix, made_table, made_value}
+use Rattle.symbolic_values.proofs.LowNodes.{MakesBit, made_low}
 
 -- ---- nodes in longer tables
 
@@ -23,7 +24,8 @@ node_later t u told n p is = let more = prefix_length p in let below = is.inside
   bit = λ e. subst (λ (node : Node). node.high ≤ 1) (sym (at_front n p is.inside)) (is.bit e);
 }
 
-pub nodes_later : (t u : List Node) (bs : List Bool) (ns : List ℕ) → Prefix t u → AreNodesOf t bs ns → AreNodesOf u bs ns
+pub nodes_later : (t u : List Node) (bs : List Bool) (ns : List ℕ) → Prefix t u → AreNodesOf t bs ns
+    → AreNodesOf u bs ns
 nodes_later t u [] [] p are = tt
 nodes_later t u [] (n ∷ ns) p are = absurd are
 nodes_later t u (b ∷ bs) [] p are = absurd are
@@ -95,7 +97,7 @@ made_is : (P : Form → Type 0) (t : List Node) (f : Form) (told : Bool) → IsT
     → (told ≡ true → MakesBit t f) → IsNodeOf (made t f).table told (made t f).number
 made_is P t f told table grown fits bit = record {
   inside = made_below t f table fits;
-  bit = λ e. made_low P t f table grown fits (bit e);
+  bit = λ e. made_low P t f grown (bit e);
 }
 
 -- ---- many forms
@@ -157,6 +159,6 @@ all_made_values P t (f ∷ fs) table grown fit have start val admit is sound =
     let later = all_fit_later t u fs first.prefix fit.1 in
     let rest = all_made_grows P u fs first.table first.grown later have.1 in
     let here = made_value start val t f table fit.0 admit.0
-        (valuation_front rest.prefix is)
-        (sound_front rest.prefix sound) in
+    (valuation_front rest.prefix is)
+    (sound_front rest.prefix sound) in
     rw (here, all_made_values P u fs first.table first.grown later have.1 start val admit.1 is sound) refl

@@ -1,36 +1,31 @@
 -- What every program's table of nodes keeps.
-use Rattle.std.proofs.Common.{◌≡◌, ℕ, suc, ◌+◌, ◌*◌, ◌<◌, ◌≤◌, Bool, false, List, [], ◌∷◌, ◌++◌, length, map, refl, sym, ap, ◌∙◌, arith}
+use Rattle.std.proofs.Common.{◌≡◌, ℕ, ◌+◌, ◌*◌, ◌<◌, ◌≤◌, Bool, false, List, [], ◌∷◌, ◌++◌, length, map, refl, ◌∙◌}
+use Rattle.std.proofs.Common.{arith}
 use Rattle.std.specs.Prelude.{fold, slice_index, slice_index_or}
-use Rattle.std.specs.List.{AllByRecursion, flat_map}
+use Rattle.std.specs.List.{AllByRecursion}
 use Rattle.std.proofs.lemmas.List.{length-append}
-use Rattle.base.proofs.Arithmetic.{not_below_zero}
 use Rattle.word_operations.specs.declared.kind.Kind.{Kind}
 use Rattle.word_operations.specs.declared.kind.Kind.TheVariants.{AddCarry, SubBorrow, MulX, CMov, Add, Sub, Mul, And}
 use Rattle.word_operations.specs.declared.kind.Kind.TheVariants.{Or, Xor, Not, Copy, Shl, Shr, Shrd}
-use Rattle.word_operations.specs.Operations.{bits_on, result_count, result_bits}
+use Rattle.word_operations.specs.Operations.{bits_on, result_count}
 use Rattle.word_program.specs.declared.parameter.Param.{Param}
 use Rattle.word_program.specs.declared.operation.Op.{Op}
 use Rattle.word_program.specs.Program.{Source}
 use Rattle.word_program.specs.Values.{bits_of, is_bit_by, op_bits, targets_of}
 use Rattle.word_program.specs.Accepted.{AreOps, IsAccepted, IsParam}
-use Rattle.terms.specs.declared.nodes.Node.{Node}
-use Rattle.terms.specs.declared.nodes.Form.{Form}
-use Rattle.terms.specs.Tables.{node_at, IsTable, Prefix}
+use Rattle.terms.specs.Tables.{IsTable}
 use Rattle.terms.specs.Grown.{IsGrown}
 use Rattle.term_store.specs.Interning.{AllMade, made_all}
-use Rattle.symbolic_values.specs.Fitting.{AreNodesOf, IsNextOp, IsNodeOf, IsProgramForm}
+use Rattle.symbolic_values.specs.Fitting.{IsNodeOf, IsProgramForm}
 use Rattle.symbolic_values.specs.Sources.{and_op, source_made, start_forms}
-use Rattle.symbolic_values.proofs.Growing.{Grows, all_made_grows, grows_on}
+use Rattle.symbolic_values.proofs.Growing.{Grows, all_made_grows}
 use Rattle.symbolic_values.proofs.SourceTables.{AreSourced, as_many_nodes, few_start_forms, node_of_number, ops_grow}
-use Rattle.symbolic_values.proofs.SourceTables.{ops_sourced, start_forms_fit, start_forms_have, step_grows, step_sourced}
+use Rattle.symbolic_values.proofs.SourceTables.{ops_sourced, start_forms_fit, start_forms_have, step_grows}
+use Rattle.symbolic_values.proofs.SourceTables.{step_sourced}
+use Rattle.term_store.proofs.Growth.{grown_empty}
+use Rattle.term_store.proofs.Index.{empty_table}
 
 -- ---- the start
-
-pub empty_table : IsTable []
-empty_table = record { below = λ n h. absurd (not_below_zero n h); distinct = λ m n h g. absurd (not_below_zero n g) }
-
-pub empty_grown : (P : Form → Type 0) → IsGrown P []
-empty_grown P = record { each = λ n h. absurd (not_below_zero n h) }
 
 -- what stands before the first operation
 abbrev pub at_start : List Param → AllMade
@@ -39,7 +34,7 @@ at_start params = record { table = (made_all [] (start_forms params)).table; num
 pub start_grows : (params : List Param) → AllByRecursion IsParam params
     → Grows (IsProgramForm params) [] (length (start_forms params)) (made_all [] (start_forms params)).table
 start_grows params all = all_made_grows (IsProgramForm params) [] (start_forms params) empty_table
-    (empty_grown (IsProgramForm params)) (start_forms_fit params all) (start_forms_have params all)
+    (grown_empty (IsProgramForm params)) (start_forms_fit params all) (start_forms_have params all)
 
 pub start_sourced : (params : List Param) → AllByRecursion IsParam params → AreSourced params [] (at_start params)
 start_sourced params all = let g = start_grows params all in record { table = g.table; grown = g.grown; nodes = tt }
@@ -101,7 +96,7 @@ bits_of_ops ps (op ∷ ops) bits are =
     let here = length-append bits more in
     let told = map (is_bit_by ps bits) op.args in
     let some : length more ≡ result_count op.kind = as_many_bits op.kind (slice_index_or told 0 _)
-        (slice_index_or told 1 _) (slice_index_or told 2 _) in
+    (slice_index_or told 1 _) (slice_index_or told 2 _) in
     let results = are.0.results in
     let all = length-append op.targets (targets_of ops) in
     omega arith
@@ -135,11 +130,6 @@ pub record IsBehind (params : List Param) (m : AllMade) (ops : List Op) : Type 0
   pub bits : List Bool
   pub legal : AreOps params bits ops
   pub so : AreSourced params bits m
-
-pub behind_first : (params : List Param) (m : AllMade) (op : Op) (ops : List Op) → IsBehind params m (op ∷ ops)
-    → IsNextOp params m.table m.numbers op
-behind_first params m op ops b =
-    record { bits = b.bits; legal = b.legal.0; is_table = b.so.table; grown = b.so.grown; nodes = b.so.nodes }
 
 pub behind_next : (params : List Param) → AllByRecursion IsParam params → (m : AllMade) (op : Op) (ops : List Op)
     → IsBehind params m (op ∷ ops) → IsBehind params (and_op params m op) ops

@@ -1,13 +1,6 @@
 -- What the forms of an operation compute is what the operation computes: one row a kind.
-use Rattle.std.proofs.Common.{◌≡◌, ℕ, zero, suc, ◌+◌, ◌-◌, ◌*◌, ◌/◌, ◌%◌, ◌^◌, ◌<◌, ◌≤◌, List, [], ◌∷◌, map, refl, sym}
-use Rattle.std.proofs.Common.{◌∙◌, ap, arith}
-use Rattle.std.specs.Prelude.{nat_lt, if◌then◌else◌}
+use Rattle.std.proofs.Common.{◌≡◌, ℕ, ◌+◌, ◌-◌, ◌*◌, ◌%◌, ◌^◌, ◌<◌, sym, ◌∙◌, ap, arith}
 use Rattle.std.proofs.Math.Nat.{add-mul-mod_self_left}
-use Rattle.terms.specs.declared.nodes.Form.{Form}
-use Rattle.terms.specs.declared.nodes.Form.TheVariants as forms
-use Rattle.terms.specs.Meaning.{Start, form_value}
-use Rattle.symbolic_values.specs.Cells.{term}
-use Rattle.symbolic_values.specs.Steps.{plus, minus, sum}
 
 -- ---- congruent sums
 

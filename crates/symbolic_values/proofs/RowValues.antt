@@ -1,8 +1,7 @@
 -- The nodes of an operation's results have the words that the operation computes: one row a kind.
-use Rattle.std.proofs.Common.{◌≡◌, ℕ, ◌+◌, ◌-◌, ◌*◌, ◌/◌, ◌%◌, ◌^◌, ◌<◌, ◌≤◌, false, List, [], ◌∷◌, length, map, get_or, refl}
-use Rattle.std.proofs.Common.{sym, ap, ◌∙◌, arith}
+use Rattle.std.proofs.Common.{◌≡◌, ℕ, ◌+◌, ◌-◌, ◌*◌, ◌/◌, ◌%◌, ◌^◌, ◌<◌, ◌≤◌, List, [], ◌∷◌, length, map, refl, sym, ap}
+use Rattle.std.proofs.Common.{◌∙◌, arith}
 use Rattle.std.specs.Prelude.{nat_lt, slice_index, if◌then◌else◌}
-use Rattle.std.specs.List.{AllByRecursion}
 use Rattle.std.proofs.lemmas.List.{get_or-map}
 use Rattle.word_operations.specs.declared.kind.Kind.{Kind}
 use Rattle.word_operations.specs.declared.kind.Kind.TheVariants.{AddCarry, SubBorrow, MulX, CMov, Add, Sub, Mul, And}
@@ -14,20 +13,20 @@ use Rattle.word_program.specs.Accepted.{HasShift}
 use Rattle.terms.specs.declared.nodes.Node.{Node}
 use Rattle.terms.specs.declared.nodes.Form.{Form}
 use Rattle.terms.specs.declared.nodes.Form.TheVariants as forms
-use Rattle.terms.specs.Tables.{node_at, IsTable}
+use Rattle.terms.specs.Tables.{IsTable}
 use Rattle.terms.specs.Forms.{FormFits}
 use Rattle.terms.specs.Grown.{IsGrown}
 use Rattle.terms.specs.Meaning.{Admits, IsSound, IsValuation, Start, form_value}
-use Rattle.term_store.specs.Interning.{AllMade, made_all}
+use Rattle.term_store.specs.Interning.{made_all}
 use Rattle.symbolic_values.specs.Cells.{term}
 use Rattle.symbolic_values.specs.Steps.{plus, minus, sum}
 use Rattle.symbolic_values.specs.Fitting.{AreOperandNodes, IsProgramForm}
 use Rattle.symbolic_values.specs.Sources.{results_made}
-use Rattle.symbolic_values.proofs.Made.{sound_front, valuation_front}
 use Rattle.symbolic_values.proofs.Growing.{Grows, all_made_grows, all_made_values}
 use Rattle.symbolic_values.proofs.ResultRows.{one_less, turned, two_less}
 use Rattle.symbolic_values.proofs.SourceRows.{are_shifts, borrow_fits, carry_fits, one_fits, row_grows, shifts}
 use Rattle.symbolic_values.proofs.SourceRows.{shifts_sum, three_fit, two_fit}
+use Rattle.term_store.proofs.Prefixes.{sound_front, valuation_front}
 
 module _ (ps : List Param) (start : Start) (val : ℕ → ℕ) where
   -- the table is valued, and its nodes are sound
@@ -65,7 +64,8 @@ module _ (ps : List Param) (start : Start) (val : ℕ → ℕ) where
   row t table grown s AddCarry h a b c n v =
       let y = n.second (omega arith) in let z = n.third (omega arith) in
       two_values t table grown (sum (plus a ∷ plus b ∷ plus c ∷ [])) (forms.Carry (a ∷ b ∷ c ∷ []))
-      (three_fit t 0 (plus a) (plus b) (plus c) n.first y z) (carry_fits t a b c n.first y z (n.taken refl)) tt tt tt tt v
+      (three_fit t 0 (plus a) (plus b) (plus c) n.first y z) (carry_fits t a b c n.first y z (n.taken refl))
+      tt tt tt tt v
       ∙ pair _ _ _ _ (ap (λ (x : ℕ). x % 2 ^ 64) (omega arith)) (ap (λ (x : ℕ). x / 2 ^ 64) (omega arith))
   row t table grown s SubBorrow h a b c n v =
       let y = n.second (omega arith) in let z = n.third (omega arith) in
@@ -93,7 +93,8 @@ module _ (ps : List Param) (start : Start) (val : ℕ → ℕ) where
   row t table grown s Xor h a b c n v =
       one_value t table grown (forms.Xor a b) (n.first, n.second (omega arith)) tt tt v
   row t table grown s Not h a b c n v =
-      one_value t table grown (forms.Lin (2 ^ 64 - 1) (minus a ∷ [])) (one_fits t (2 ^ 64 - 1) (minus a) n.first) tt tt v
+      one_value t table grown (forms.Lin (2 ^ 64 - 1) (minus a ∷ []))
+      (one_fits t (2 ^ 64 - 1) (minus a) n.first) tt tt v
       ∙ single _ _ (turned (val a) (s.word a n.first))
   row t table grown s Copy h a b c n v = refl
   row t table grown s (Shl k) h a b c n v =
@@ -106,18 +107,18 @@ module _ (ps : List Param) (start : Start) (val : ℕ → ℕ) where
       let u = made_all t (shifts ps k a b) in
       let g = shifts_sum ps u in
       let last = all_made_grows (IsProgramForm ps) u.table (g ∷ []) are.grows.table are.grows.grown (are.sum_fits, tt)
-          (tt, tt) in
+      (tt, tt) in
       let w = valued_front u.table (made_all u.table (g ∷ [])).table 1 last v in
       let parts = all_made_values (IsProgramForm ps) t (shifts ps k a b) table grown are.fit (tt, (tt, tt)) start val
-          (tt, (tt, tt)) w.valuation w.sound in
+      (tt, (tt, tt)) w.valuation w.sound in
       let low : val (slice_index u.numbers 0) ≡ val a / 2 ^ k = ap (λ (xs : List ℕ). slice_index xs 0) parts in
       let high : val (slice_index u.numbers 1) ≡ (0 + (2 ^ (64 - k) * val b + 0)) % 2 ^ 64 =
-          ap (λ (xs : List ℕ). slice_index xs 1) parts in
+      ap (λ (xs : List ℕ). slice_index xs 1) parts in
       let turn : 0 + (2 ^ (64 - k) * val b + 0) ≡ val b * 2 ^ (64 - k) = omega arith in
       let other : (0 + (2 ^ (64 - k) * val b + 0)) % 2 ^ 64 ≡ (val b * 2 ^ (64 - k)) % 2 ^ 64 =
-          ap (λ (x : ℕ). x % 2 ^ 64) turn in
+      ap (λ (x : ℕ). x % 2 ^ 64) turn in
       let word : val a / 2 ^ k + (val b * 2 ^ (64 - k)) % 2 ^ 64 < 2 ^ 64 =
-          (results.words (Shrd k) (val a) (val b) 0 (s.word a n.first, (s.word b y, (omega arith, tt)))).0 in
+      (results.words (Shrd k) (val a) (val b) 0 (s.word a n.first, (s.word b y, (omega arith, tt)))).0 in
       one_value u.table are.grows.table are.grows.grown g are.sum_fits tt tt v
       ∙ single _ _ (omega (arith, low, high, other, word))
 

@@ -1,8 +1,8 @@
 -- The nodes of a program's output words.
-use Rattle.std.proofs.Common.{◌≡◌, ℕ, zero, suc, ◌+◌, ◌<◌, ◌≤◌, Bool, true, false, cond, ltb, List, [], ◌∷◌, ◌++◌, length, map}
-use Rattle.std.proofs.Common.{get_or, Option, Some, None, refl, sym, ap, ◌∙◌, subst, arith, inl, inr, ⊎_elim, ◌⊎◌}
+use Rattle.std.proofs.Common.{◌≡◌, ℕ, zero, suc, ◌+◌, ◌<◌, ◌≤◌, Bool, true, false, cond, List, [], ◌∷◌, ◌++◌, length}
+use Rattle.std.proofs.Common.{map, get_or, Option, Some, None, refl, sym, ap, ◌∙◌, subst, arith, ⊎_elim}
 use Rattle.std.specs.Prelude.{count_by, slice_get, slice_index, IsTrue, IsSomeAnd, if◌then◌else◌}
-use Rattle.std.specs.List.{All, AllByRecursion, position, position_or_len, range_with_len}
+use Rattle.std.specs.List.{All, position, position_or_len, range_with_len}
 use Rattle.std.specs.Option.{option_map_or}
 use Rattle.std.proofs.lemmas.Bool.{cases_lt, lt-ltb}
 use Rattle.std.proofs.lemmas.List.{get_or-map, length-append, map-append}
@@ -13,9 +13,9 @@ use Rattle.word_program.specs.declared.parameter.Param.{Param}
 use Rattle.word_program.specs.declared.operation.Target.{Target}
 use Rattle.word_program.specs.declared.operation.Target.TheVariants as targets
 use Rattle.word_program.specs.Program.{Source}
-use Rattle.word_program.specs.Values.{is_at, is_output, output_count, outputs}
-use Rattle.word_program.specs.Values.{outputs_from, stored_word, targets_of, values_of}
-use Rattle.word_program.specs.Accepted.{IsAccepted, IsOutputWord}
+use Rattle.word_program.specs.Values.{is_at, is_output, output_count, outputs, outputs_from, stored_word, targets_of}
+use Rattle.word_program.specs.Values.{values_of}
+use Rattle.word_program.specs.Accepted.{IsAccepted}
 use Rattle.terms.specs.Meaning.{Start}
 use Rattle.symbolic_values.specs.Sources.{IsRunOn, source_made, source_outputs}
 use Rattle.symbolic_values.proofs.SourceRows.{one_if}
@@ -46,14 +46,15 @@ has_place p ts once = ⊎_elim
       is = ap (λ (b : Bool). cond b (Some (position_or_len p ts)) None) (lt-ltb _ _ h);
     })
     (λ (h : length ts ≤ position_or_len p ts).
-      let none = count_none p ts (λ k l. fails_before_first p ts k targets.Value (omega arith)) in absurd (omega arith))
+    let none = count_none p ts (λ k l. fails_before_first p ts k targets.Value (omega arith)) in absurd (omega arith))
     (cases_lt (position_or_len p ts) (length ts))
 
 -- ---- output words
 
 -- the words of parameters from the one with this number on are written
 abbrev AreWritten : List Target → ℕ → List Param → Type 0
-AreWritten ts param ps = (k word : ℕ) → IsSomeAnd (slice_get ps k) (λ p. IsTrue (is_output p.role) × (word < length p.bounds))
+AreWritten ts param ps = (k word : ℕ)
+    → IsSomeAnd (slice_get ps k) (λ p. IsTrue (is_output p.role) × (word < length p.bounds))
     → count_by (is_at (param + k) word) ts ≡ 1
 
 written_next : (ts : List Target) (param : ℕ) (p : Param) (ps : List Param) → AreWritten ts param (p ∷ ps)
@@ -76,19 +77,21 @@ module _ (ts : List Target) (ns : List ℕ) (many : length ns ≡ length ts) whe
         let at = has_place (is_at param word) ts once in
         let inside = at.inside in
         let here : val (slice_index ns at.place) ≡ slice_index words at.place =
-            sym (get_or-map val ns at.place 0 0 (omega arith)) ∙ ap (λ (xs : List ℕ). slice_index xs at.place) have in
+        sym (get_or-map val ns at.place 0 0 (omega arith)) ∙ ap (λ (xs : List ℕ). slice_index xs at.place) have in
         ap (λ (o : Option ℕ). val (option_map_or (slice_index ns) o 0)) at.is ∙ here
         ∙ sym (ap (λ (o : Option ℕ). option_map_or (slice_index words) o 0) at.is)
 
     words_values : (param k n : ℕ) → ((word : ℕ) → word < k + n → count_by (is_at param word) ts ≡ 1)
-        → map val (map (stored_word ts ns param) (range_with_len k n)) ≡ map (stored_word ts words param) (range_with_len k n)
+        → map val (map (stored_word ts ns param) (range_with_len k n))
+        ≡ map (stored_word ts words param) (range_with_len k n)
     words_values param k zero all = refl
     words_values param k (suc n) all =
         let here = word_value param k (all k (omega arith)) in
         let rest = words_values param (k + 1) n (λ word h. all word (omega arith)) in
         λ i. here i ∷ rest i
 
-    param_values : (param : ℕ) (b : Bool) (n : ℕ) → (b ≡ true → (word : ℕ) → word < n → count_by (is_at param word) ts ≡ 1)
+    param_values : (param : ℕ) (b : Bool) (n : ℕ)
+        → (b ≡ true → (word : ℕ) → word < n → count_by (is_at param word) ts ≡ 1)
         → map val (if b then map (stored_word ts ns param) (range_with_len 0 n) else [])
         ≡ (if b then map (stored_word ts words param) (range_with_len 0 n) else [])
     param_values param true n all = words_values param 0 n (λ word h. all refl word (omega arith))
@@ -100,7 +103,8 @@ module _ (ts : List Target) (ns : List ℕ) (many : length ns ≡ length ts) whe
     outputs_values param (p ∷ ps) all =
         let here = param_values param (is_output p.role) (length p.bounds) (written_here ts param p ps all) in
         let rest = outputs_values (param + 1) ps (written_next ts param p ps all) in
-        map-append val (if is_output p.role then map (stored_word ts ns param) (range_with_len 0 (length p.bounds)) else [])
+        map-append val
+        (if is_output p.role then map (stored_word ts ns param) (range_with_len 0 (length p.bounds)) else [])
         (outputs_from ts ns (param + 1) ps)
         ∙ (λ i. here i ++ rest i)
 
@@ -118,7 +122,8 @@ module _ (ts : List Target) (ns : List ℕ) (many : length ns ≡ length ts) whe
     words_below param k (suc n) all = All-cons (λ (m : ℕ). m < count) _ _ (word_below param k (all k (omega arith)))
         (words_below param (k + 1) n (λ word h. all word (omega arith)))
 
-    param_below : (param : ℕ) (b : Bool) (n : ℕ) → (b ≡ true → (word : ℕ) → word < n → count_by (is_at param word) ts ≡ 1)
+    param_below : (param : ℕ) (b : Bool) (n : ℕ)
+        → (b ≡ true → (word : ℕ) → word < n → count_by (is_at param word) ts ≡ 1)
         → All (λ m. m < count) (if b then map (stored_word ts ns param) (range_with_len 0 n) else [])
     param_below param true n all = words_below param 0 n (λ word h. all refl word (omega arith))
     param_below param false n all = All-nil (λ (m : ℕ). m < count)
@@ -132,7 +137,8 @@ module _ (ts : List Target) (ns : List ℕ) (many : length ns ≡ length ts) whe
 
 -- ---- how many there are
 
-param_many : (f : ℕ → ℕ) (b : Bool) (n : ℕ) → length (if b then map f (range_with_len 0 n) else []) ≡ (if b then n else 0)
+param_many : (f : ℕ → ℕ) (b : Bool) (n : ℕ)
+    → length (if b then map f (range_with_len 0 n) else []) ≡ (if b then n else 0)
 param_many f true n = length-map-range_with_len f 0 n
 param_many f false n = refl
 

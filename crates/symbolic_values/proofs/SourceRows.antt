@@ -1,8 +1,8 @@
 -- The nodes of an operation's results: the table goes on, and results that are told to be bits are at most 1.
-use Rattle.std.proofs.Common.{◌≡◌, ℕ, ◌+◌, ◌-◌, ◌^◌, ◌<◌, ◌≤◌, Bool, true, false, List, [], ◌∷◌, length, map, refl, sym, ap}
-use Rattle.std.proofs.Common.{◌∙◌, subst, arith, inl, inr, ◌⊎◌}
-use Rattle.std.specs.Prelude.{◌&&◌, ◌||◌, ◌==◌, nat_lt, slice_index, count_by, if◌then◌else◌}
-use Rattle.std.specs.List.{All, AllByRecursion}
+use Rattle.std.proofs.Common.{◌≡◌, ℕ, ◌+◌, ◌-◌, ◌^◌, ◌<◌, ◌≤◌, Bool, true, false, List, [], ◌∷◌, length, refl, ap}
+use Rattle.std.proofs.Common.{arith, inl, inr, ◌⊎◌}
+use Rattle.std.specs.Prelude.{◌&&◌, ◌||◌, ◌==◌, slice_index, count_by, if◌then◌else◌}
+use Rattle.std.specs.List.{AllByRecursion}
 use Rattle.std.proofs.lemmas.Bool.{and_parts, le-ltb}
 use Rattle.std.proofs.lemmas.List.Elements.{All-from_recursion}
 use Rattle.std.proofs.lemmas.List.Sums.{count_by-le-length, sum_by-cons}
@@ -10,7 +10,7 @@ use Rattle.base.proofs.Arithmetic.{equal_by_test}
 use Rattle.word_operations.specs.declared.kind.Kind.{Kind}
 use Rattle.word_operations.specs.declared.kind.Kind.TheVariants.{AddCarry, SubBorrow, MulX, CMov, Add, Sub, Mul, And}
 use Rattle.word_operations.specs.declared.kind.Kind.TheVariants.{Or, Xor, Not, Copy, Shl, Shr, Shrd}
-use Rattle.word_operations.specs.Operations.{bits_on, operand_count, takes_bit}
+use Rattle.word_operations.specs.Operations.{bits_on}
 use Rattle.word_program.specs.declared.parameter.Param.{Param}
 use Rattle.word_program.specs.Accepted.{HasShift}
 use Rattle.terms.specs.declared.lists.Term.{Term}
@@ -23,10 +23,11 @@ use Rattle.terms.specs.Grown.{IsGrown}
 use Rattle.term_store.specs.Interning.{AllMade, made_all}
 use Rattle.symbolic_values.specs.Cells.{term}
 use Rattle.symbolic_values.specs.Steps.{plus, minus, sum}
-use Rattle.symbolic_values.specs.Fitting.{AreNodesOf, AreOperandNodes, IsNodeOf, IsProgramForm}
+use Rattle.symbolic_values.specs.Fitting.{AreNodesOf, AreOperandNodes, IsProgramForm}
 use Rattle.symbolic_values.specs.Sources.{results_made}
-use Rattle.symbolic_values.proofs.Made.{MakesBit}
 use Rattle.symbolic_values.proofs.Growing.{Grows, all_made_are, all_made_grows, grows_more, grows_not, grows_on}
+use Rattle.symbolic_values.proofs.LowNodes.{MakesBit}
+use Rattle.term_store.proofs.Prefixes.{prefix_length}
 
 -- ---- forms that fit
 
@@ -70,6 +71,9 @@ two_fit t k x y h g = (terms_below (length t) (x ∷ y ∷ []) (h, (g, tt)), ome
 
 pub one_fits : (t : List Node) (k : ℕ) (x : Term) → x.node < length t → FormFits t (forms.Lin k (x ∷ []))
 one_fits t k x h = (terms_below (length t) (x ∷ []) (h, tt), omega arith)
+
+-- sums of parts that are made one after the other
+pub ruleset shift_fits = (one_fits, two_fit, prefix_length)
 
 -- ---- rows
 
@@ -132,10 +136,10 @@ module _ (ps : List Param) where
       → lo < length t → hi < length t → AreShifts t k lo hi
   are_shifts t table grown k lo hi h f g =
       let fit : AllByRecursion (FormFits t) (shifts k lo hi) =
-          ((f, h.0, h.1), (one_fits t 0 (term (2 ^ (64 - k)) hi) g, tt)) in
+      ((f, h.0, h.1), (one_fits t 0 (term (2 ^ (64 - k)) hi) g, tt)) in
       let u = made_all t (shifts k lo hi) in
       let are = all_made_are (IsProgramForm ps) t (false ∷ false ∷ []) (shifts k lo hi) table grown fit (tt, (tt, tt))
-          ((λ e. never e), ((λ e. never e), tt)) in
+      ((λ e. never e), ((λ e. never e), tt)) in
       record {
         fit = fit;
         grows = all_made_grows (IsProgramForm ps) t (shifts k lo hi) table grown fit (tt, (tt, tt));

@@ -1,26 +1,27 @@
 -- The nodes of the registers' starts come first, and those of the input words stand behind them.
-use Rattle.std.proofs.Common.{◌≡◌, ℕ, zero, suc, ◌+◌, ◌-◌, ◌^◌, ◌<◌, ◌≤◌, Bool, true, false, List, [], ◌∷◌, ◌++◌, length, map}
-use Rattle.std.proofs.Common.{refl, sym, ap, ◌∙◌, subst, arith, append_assoc, Option, Some, None}
+use Rattle.std.proofs.Common.{◌≡◌, ℕ, zero, suc, ◌+◌, ◌-◌, ◌^◌, ◌<◌, Bool, true, false, List, [], ◌∷◌, ◌++◌, length}
+use Rattle.std.proofs.Common.{map, refl, sym, ap, ◌∙◌, subst, arith, append_assoc, Some}
 use Rattle.std.specs.Prelude.{slice_get, IsFalse, IsSomeAnd, if◌then◌else◌}
-use Rattle.std.specs.List.{AllByRecursion, range_with_len}
+use Rattle.std.specs.List.{range_with_len}
 use Rattle.std.proofs.lemmas.Bool.{true≢false}
 use Rattle.base.proofs.Arithmetic.{not_below_zero}
 use Rattle.word_program.specs.declared.parameter.Param.{Param}
 use Rattle.word_program.specs.declared.operation.Operand.TheVariants as operands
 use Rattle.word_program.specs.Program.{Source}
 use Rattle.word_program.specs.Values.{is_output}
-use Rattle.word_program.specs.Accepted.{IsAccepted, IsOperand, IsParam}
+use Rattle.word_program.specs.Accepted.{IsAccepted, IsOperand}
 use Rattle.terms.specs.declared.nodes.Node.{Node}
 use Rattle.terms.specs.declared.nodes.NodeKind.TheVariants as kinds
 use Rattle.terms.specs.declared.nodes.Form.{Form}
 use Rattle.terms.specs.declared.nodes.Form.TheVariants as forms
-use Rattle.terms.specs.Tables.{node_at, IsTable, Prefix}
+use Rattle.terms.specs.Tables.{Prefix}
 use Rattle.terms.specs.Rules.{finished, normal_of}
 use Rattle.term_store.specs.Interning.{Interned, interned, made, made_all}
 use Rattle.symbolic_values.specs.Sources.{input_form, inputs_from, param_forms, source_made, start_forms}
-use Rattle.symbolic_values.proofs.Made.{made_again_plain, made_below, made_prefix, prefix_refl, prefix_trans}
 use Rattle.symbolic_values.proofs.SourceTables.{bounds_word}
 use Rattle.symbolic_values.proofs.ProgramNodes.{source_grows, source_table}
+use Rattle.term_store.proofs.Prefixes.{prefix_refl, prefix_trans}
+use Rattle.term_store.proofs.Made.{made_again_plain, made_below, made_prefix}
 
 -- ---- forms made one after the other
 
@@ -43,7 +44,6 @@ starts : (made_all [] (map forms.Start (range_with_len 0 16))).table ≡ map sta
 unfolding made interned normal_of finished
 starts = refl
 
-
 get_front : {X : Type 0} (xs ys : List X) (n : ℕ) (x : X) → slice_get xs n ≡ Some x → slice_get (xs ++ ys) n ≡ Some x
 get_front [] ys n x e = absurd (cc)
 get_front (y ∷ xs) ys zero x e = e
@@ -65,10 +65,10 @@ source_starts program accepted r h =
     let w = (made_all [] (start_forms program.params)).table in
     let split : w ≡ (made_all u inputs).table = all_made_table [] (map forms.Start (range_with_len 0 16)) inputs in
     let p = prefix_trans
-        (subst (Prefix u) (sym split) (all_made_prefix u inputs)) (source_grows program accepted).prefix in
+    (subst (Prefix u) (sym split) (all_made_prefix u inputs)) (source_grows program accepted).prefix in
     let here : slice_get u r ≡ Some (start_node r) =
-        ap (λ (t : List Node). slice_get t r) starts ∙ get_mapped start_node 0 16 r h
-        ∙ ap (λ (m : ℕ). Some (start_node m)) (omega arith) in
+    ap (λ (t : List Node). slice_get t r) starts ∙ get_mapped start_node 0 16 r h
+    ∙ ap (λ (m : ℕ). Some (start_node m)) (omega arith) in
     ap (λ (t : List Node). slice_get t r) p.is ∙ get_front u p.more r (start_node r) here
 
 -- ---- input words
@@ -96,11 +96,12 @@ among_right f fs gs a = record {
 among_words : (g : ℕ → Form) (k n word : ℕ) → word < n → Among (g (k + word)) (map g (range_with_len k n))
 among_words g k zero word h = absurd (not_below_zero word h)
 among_words g k (suc n) zero h =
-    record { before = []; after = map g (range_with_len (k + 1) n); is = ap (λ (m : ℕ). g m ∷ map g (range_with_len (k + 1) n)) (omega arith) }
+    let rest = map g (range_with_len (k + 1) n) in
+    record { before = []; after = rest; is = ap (λ (m : ℕ). g m ∷ rest) (omega arith) }
 among_words g k (suc n) (suc word) h =
     let e : k + 1 + word ≡ k + suc word = omega arith in
     let a = subst (λ (m : ℕ). Among (g m) (map g (range_with_len (k + 1) n))) e
-        (among_words g (k + 1) n word (omega arith)) in
+    (among_words g (k + 1) n word (omega arith)) in
     record { before = g k ∷ a.before; after = a.after; is = ap (λ (hs : List Form). g k ∷ hs) a.is }
 
 among_param : (params : List Param) (param : ℕ) (b : Bool) (n word : ℕ) → b ≡ false → word < n
@@ -148,14 +149,14 @@ input_there program accepted param word h =
     let w = (made_all [] (start_forms program.params)).table in
     let whole = (source_made program).table in
     let split : w ≡ (made_all (made t form).table a.after).table =
-        ap (λ (fs : List Form). (made_all [] fs).table) a.is ∙ all_made_table [] a.before (form ∷ a.after) in
+    ap (λ (fs : List Form). (made_all [] fs).table) a.is ∙ all_made_table [] a.before (form ∷ a.after) in
     let p = prefix_trans
-        (subst (Prefix (made t form).table) (sym split) (all_made_prefix (made t form).table a.after))
-        (source_grows program accepted).prefix in
+    (subst (Prefix (made t form).table) (sym split) (all_made_prefix (made t form).table a.after))
+    (source_grows program accepted).prefix in
     let again = λ (u : List Node) (q : Prefix whole u).
-        made_again_plain t form tt (prefix_trans p q) in
+    made_again_plain t form tt (prefix_trans p q) in
     let below = made_below whole form (source_table program accepted)
-        (bounds_word program.params accepted.params param word) in
+    (bounds_word program.params accepted.params param word) in
     let here = again whole (prefix_refl whole) in
     record {
       number = (made t form).number;

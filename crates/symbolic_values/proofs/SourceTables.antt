@@ -1,36 +1,36 @@
 -- The table of a program's nodes: it is one, and values that are bits have nodes of at most 1.
-use Rattle.std.proofs.Common.{◌≡◌, ℕ, zero, suc, ◌+◌, ◌-◌, ◌*◌, ◌^◌, ◌<◌, ◌≤◌, Bool, true, false, List, [], ◌∷◌, ◌++◌}
-use Rattle.std.proofs.Common.{length, map, get_or, refl, sym, ap, ◌∙◌, subst, arith}
+use Rattle.std.proofs.Common.{◌≡◌, ℕ, zero, suc, ◌+◌, ◌*◌, ◌^◌, ◌<◌, ◌≤◌, Bool, true, false, List, [], ◌∷◌, ◌++◌}
+use Rattle.std.proofs.Common.{length, map, refl, sym, ap, ◌∙◌, subst, arith}
 use Rattle.std.specs.Prelude.{fold, slice_get, slice_index, slice_index_or, Some, IsFalse, IsSomeAnd, if◌then◌else◌}
-use Rattle.std.specs.List.{AllByRecursion, flat_map, range_with_len}
+use Rattle.std.specs.List.{AllByRecursion, range_with_len}
 use Rattle.std.proofs.lemmas.List.{length-append, length-map, get_or-map}
 use Rattle.std.proofs.lemmas.List.FromFn.{length-map-range_with_len}
 use Rattle.base.proofs.Arithmetic.{at_most_by_test, not_below_zero}
 use Rattle.word_operations.specs.declared.kind.Kind.{Kind}
 use Rattle.word_operations.specs.declared.kind.Kind.TheVariants.{AddCarry, SubBorrow, MulX, CMov, Add, Sub, Mul, And}
 use Rattle.word_operations.specs.declared.kind.Kind.TheVariants.{Or, Xor, Not, Copy, Shl, Shr, Shrd}
-use Rattle.word_operations.specs.Operations.{bits_on, operand_count, result_count, takes_bit}
+use Rattle.word_operations.specs.Operations.{operand_count}
 use Rattle.word_program.specs.declared.parameter.Bounds.{Bounds}
 use Rattle.word_program.specs.declared.parameter.Param.{Param}
 use Rattle.word_program.specs.declared.operation.Op.{Op}
 use Rattle.word_program.specs.declared.operation.Operand.{Operand}
 use Rattle.word_program.specs.declared.operation.Operand.TheVariants as operands
-use Rattle.word_program.specs.Program.{Source, full}
-use Rattle.word_program.specs.Values.{bits_of, is_bit_by, is_output, op_bits, targets_of, word_bounds}
-use Rattle.word_program.specs.Accepted.{AreBounds, AreOps, HasShift, IsAccepted, IsOp, IsOperand, IsParam}
+use Rattle.word_program.specs.Program.{full}
+use Rattle.word_program.specs.Values.{is_bit_by, is_output, op_bits, word_bounds}
+use Rattle.word_program.specs.Accepted.{AreBounds, AreOps, IsOp, IsOperand, IsParam}
 use Rattle.terms.specs.declared.nodes.Node.{Node}
 use Rattle.terms.specs.declared.nodes.Form.{Form}
 use Rattle.terms.specs.declared.nodes.Form.TheVariants as forms
 use Rattle.terms.specs.Tables.{node_at, IsTable}
 use Rattle.terms.specs.Forms.{FormFits}
 use Rattle.terms.specs.Grown.{IsGrown}
-use Rattle.term_store.specs.Interning.{AllMade, made_all}
+use Rattle.term_store.specs.Interning.{AllMade}
 use Rattle.symbolic_values.specs.Fitting.{AreNodesOf, AreOperandNodes, IsNextOp, IsNodeOf, IsProgramForm}
 use Rattle.symbolic_values.specs.Sources.{and_op, input_form, inputs_from, op_made, operand_made, operands_made}
-use Rattle.symbolic_values.specs.Sources.{param_forms, results_made, source_made, start_forms}
+use Rattle.symbolic_values.specs.Sources.{param_forms, results_made, start_forms}
 use Rattle.symbolic_values.proofs.Growing.{Grows, all_made_are, all_made_grows, grows_more, grows_not, grows_on}
 use Rattle.symbolic_values.proofs.Growing.{nodes_append, nodes_later}
-use Rattle.symbolic_values.proofs.SourceRows.{AreBitNodes, never, row_grows, row_nodes}
+use Rattle.symbolic_values.proofs.SourceRows.{never, row_grows, row_nodes}
 
 -- ---- nodes by number
 
@@ -285,8 +285,11 @@ module _ (params : List Param) (all : AllByRecursion IsParam params) where
       → AllByRecursion (IsProgramForm params) (map (input_form params param) (range_with_len k n))
   word_forms_have param k zero p e input h = tt
   word_forms_have param k (suc n) p e input h = (
-    (refl, subst (λ o. IsSomeAnd o (λ q. IsFalse (is_output q.role) × (k < length q.bounds))) (sym e)
-        (input, omega arith)),
+    (
+      refl,
+      subst (λ o. IsSomeAnd o (λ q. IsFalse (is_output q.role) × (k < length q.bounds))) (sym e)
+          (input, omega arith),
+    ),
     word_forms_have param (k + 1) n p e input (omega arith),
   )
 

@@ -1,5 +1,5 @@
 -- The nodes of a program's values have the words that the program computes.
-use Rattle.std.proofs.Common.{◌≡◌, ℕ, ◌+◌, ◌*◌, ◌<◌, ◌≤◌, Bool, List, [], ◌∷◌, ◌++◌, length, map, refl, sym, ap, ◌∙◌, arith}
+use Rattle.std.proofs.Common.{◌≡◌, ℕ, ◌*◌, ◌<◌, Bool, List, [], ◌∷◌, ◌++◌, length, map, refl, sym, ap, ◌∙◌, arith}
 use Rattle.std.specs.Prelude.{fold, slice_index}
 use Rattle.std.specs.List.{AllByRecursion}
 use Rattle.std.proofs.lemmas.List.{get_or-map, length-map, map-append}
@@ -10,11 +10,10 @@ use Rattle.word_program.specs.declared.operation.Operand.{Operand}
 use Rattle.word_program.specs.declared.operation.Operand.TheVariants as operands
 use Rattle.word_program.specs.Program.{Source}
 use Rattle.word_program.specs.Values.{AreWithin, input_bounds, input_word, is_bit_by, op_bits, op_words, operand_word}
-use Rattle.word_program.specs.Values.{targets_of, values_of, values_on, word_bounds}
+use Rattle.word_program.specs.Values.{targets_of, values_of, values_on}
 use Rattle.word_program.specs.Accepted.{AreOps, IsAccepted, IsOp, IsOperand, IsParam}
 use Rattle.word_program.proofs.InputWords.{input_within}
 use Rattle.terms.specs.declared.nodes.Node.{Node}
-use Rattle.terms.specs.declared.nodes.Form.{Form}
 use Rattle.terms.specs.declared.nodes.Form.TheVariants as forms
 use Rattle.terms.specs.Tables.{IsTable}
 use Rattle.terms.specs.Grown.{IsGrown}
@@ -26,8 +25,7 @@ use Rattle.symbolic_values.specs.Sources.{IsRunOn, source_made}
 use Rattle.symbolic_values.proofs.Growing.{all_made_values, nodes_later}
 use Rattle.symbolic_values.proofs.SourceRows.{row_grows}
 use Rattle.symbolic_values.proofs.SourceTables.{AreSourced, as_many_nodes, bounds_word, operand_grows, operand_nodes_of}
-use Rattle.symbolic_values.proofs.SourceTables.{operands_grow, operands_nodes, ops_grow, some_operand, step_grows}
-use Rattle.symbolic_values.proofs.SourceTables.{step_sourced}
+use Rattle.symbolic_values.proofs.SourceTables.{operands_grow, operands_nodes, ops_grow, some_operand, step_sourced}
 use Rattle.symbolic_values.proofs.ProgramNodes.{at_start, many_nodes, start_sourced}
 use Rattle.symbolic_values.proofs.RowValues.{IsValued, row_values, valued_front}
 
@@ -65,9 +63,10 @@ module _ (ps : List Param) (params : AllByRecursion IsParam ps) (inputs : List �
         let first = operand_grows ps params values bits t table grown o h.0 in
         let w = operands_made ps values u.table os in
         let rest = operands_grow ps params values bits u.table first.table first.grown os h.1 in
-        let here = operand_value t table grown are o h.0 (valued_front ps start val u.table w.table (length os) rest v) in
+        let here = operand_value t table grown are o h.0
+        (valued_front ps start val u.table w.table (length os) rest v) in
         let more = operands_values u.table first.table first.grown (nodes_later t u.table bits values first.prefix are)
-            os h.1 v in
+        os h.1 v in
         map-append val u.numbers w.numbers ∙ (λ i. here i ++ more i)
 
   -- ---- operations
@@ -86,7 +85,7 @@ module _ (ps : List Param) (params : AllByRecursion IsParam ps) (inputs : List �
       let results = results_made op.kind args.table a b c in
       let grows = row_grows ps args.table first.table first.grown op.kind is.count a b c has in
       let words = operands_values values bits t table grown are op.args is.reads
-          (valued_front ps start val args.table results.table 3 grows v) in
+      (valued_front ps start val args.table results.table 3 grows v) in
       let many = as_many_nodes args.table told args.numbers nodes in
       let count = length-map op.args (is_bit_by ps bits) in
       let wants = is.arguments in
@@ -103,10 +102,10 @@ module _ (ps : List Param) (params : AllByRecursion IsParam ps) (inputs : List �
       let next = step_sourced ps params bits m op are.0 so in
       let rest = ops_grow ps params ops (bits ++ op_bits ps bits op) n are.1 next in
       let here = op_value m.numbers bits m.table so.table so.grown so.nodes op are.0
-          (valued_front ps start val n.table (fold (and_op ps) n ops).table (6 * length ops) rest v) in
+      (valued_front ps start val n.table (fold (and_op ps) n ops).table (6 * length ops) rest v) in
       let both : map val n.numbers ≡ map val m.numbers ++ op_words ps inputs (map val m.numbers) op =
-          map-append val m.numbers (op_made ps m.numbers m.table op).numbers
-          ∙ ap (λ (xs : List ℕ). map val m.numbers ++ xs) here in
+      map-append val m.numbers (op_made ps m.numbers m.table op).numbers
+      ∙ ap (λ (xs : List ℕ). map val m.numbers ++ xs) here in
       ops_values ops (bits ++ op_bits ps bits op) n are.1 next v
       ∙ ap (λ (xs : List ℕ). values_on ps inputs xs ops) both
 

@@ -1,6 +1,6 @@
 -- What holds between a table, a program and a symbolic state.
-use Rattle.std.specs.Prelude.{◌≡◌, ℕ, ◌/◌, ◌<◌, ◌≤◌, List, [], ◌∷◌, length, map, Option, Some, IfSome, if◌then◌else◌}
-use Rattle.std.specs.Prelude.{Bool, true, IsFalse, IsSomeAnd, slice_get}
+use Rattle.std.specs.Prelude.{◌≡◌, ℕ, ◌/◌, ◌<◌, ◌≤◌, List, [], ◌∷◌, length, Option, IfSome, if◌then◌else◌, Bool, true}
+use Rattle.std.specs.Prelude.{IsFalse, IsSomeAnd, slice_get}
 use Rattle.std.specs.List.{All, AllByRecursion}
 use Rattle.word_operations.specs.declared.kind.Kind.{Kind}
 use Rattle.word_operations.specs.Operations.{operand_count, takes_bit}
@@ -19,7 +19,8 @@ use Rattle.symbolic_values.specs.Symbols.{Array, Symbols}
 -- A form that is made for a program: an input word is that of an input parameter, and has its bounds. Every other form
 -- has no condition.
 abbrev pub IsProgramForm : List Param → Form → Type 0
-IsProgramForm params (forms.In param word low high) = (word_bounds params param word ≡ record { low = low; high = high })
+IsProgramForm params (forms.In param word low high) =
+    (word_bounds params param word ≡ record { low = low; high = high })
     × IsSomeAnd (slice_get params param) (λ p. IsFalse (is_output p.role) × (word < length p.bounds))
 IsProgramForm params _ = Unit {0}
 

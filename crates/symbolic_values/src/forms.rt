@@ -12,19 +12,12 @@ use term_store::Interner;
 use terms::{Form, Numbers, Term, Terms};
 
 /// The number of what the rules make of a form, interned.
-#[tactic(
-    auto,
-    using(
-        crate::proofs::Made::prefix_refl,
-        crate::proofs::Made::made_prefix,
-        crate::proofs::Made::made_below,
-        crate::proofs::Made::made_most
-    )
-)]
+#[tactic(auto, using(crate::proofs::FormSteps::made_facts))]
 pub fn make<T: Interner>(store: &mut T, form: Form) -> Result<u32, AllocError>
     requires room { length (T.nodes store.now) < 2 ^ 32 - 1 }
     requires fits { FormFits (T.nodes store.now) form }
-    ensures ok { IfOk result (λ number. record { table = T.nodes store.new; number = number } ≡ made (T.nodes store.old) form) }
+    ensures ok { IfOk result (λ number. record { table = T.nodes store.new; number = number }
+        ≡ made (T.nodes store.old) form) }
     ensures inside { IfOk result (λ number. number < length (T.nodes store.new)) }
     ensures grows { Prefix (T.nodes store.old) (T.nodes store.new) }
     ensures most { length (T.nodes store.new) ≤ length (T.nodes store.old) + 1 }

@@ -69,12 +69,7 @@ pub fn start_nodes(store: &mut Store) -> Result<(), AllocError>
 
 /// The nodes of the first words of a parameter.
 #[tactic(auto, using(crate::proofs::FormSteps::forms_step))]
-fn word_nodes(
-    store: &mut Store,
-    params: &[Param],
-    param: u8,
-    count: u8,
-) -> Result<(), AllocError>
+fn word_nodes(store: &mut Store, params: &[Param], param: u8, count: u8) -> Result<(), AllocError>
     requires { length store.now + count < 2 ^ 31 }
     ensures table { OnOk result (store.new
         ≡ (made_all store.old (map (sources.input_form params.now param) (range_with_len 0 count))).table) }

@@ -32,7 +32,8 @@ fn operand_node(
     operand: Operand,
 ) -> Result<u32, AllocError>
     requires { length store.now < 2 ^ 32 - 1 }
-    ensures table { OnOk result (store.new ≡ (sources.operand_made params.entry.now values.entry.now store.old operand).table) }
+    ensures table { OnOk result (store.new
+        ≡ (sources.operand_made params.entry.now values.entry.now store.old operand).table) }
     ensures number { IfOk result (λ number. number ∷ []
         ≡ (sources.operand_made params.entry.now values.entry.now store.old operand).numbers) }
     ensures few { length store.new ≤ length store.old + 1 }

@@ -8,6 +8,7 @@ ghost use Rattle.terms.specs.Forms.{FormFits};
 ghost use Rattle.term_store.specs.Interning.{made, made_all};
 ghost use Rattle.symbolic_values.specs.Fitting.{AreOperandNodes};
 ghost use Rattle.symbolic_values.specs.Sources.{results_made};
+ghost use Rattle.symbolic_values.specs.Cells.{term};
 ghost use Rattle.symbolic_values.specs.Steps.{sum};
 
 use crate::forms::{borrow2, carry3, lin1, make, minus, plus, sum2, sum3};
@@ -15,6 +16,13 @@ use std::alloc::{AllocError, Global};
 use term_store::Store;
 use terms::{Form, Term};
 use word_program::Kind;
+
+/// A node so many times.
+fn times(times: u64, node: u32) -> Term
+    ensures { result ≡ term times node }
+{
+    Term { times, node }
+}
 
 /// Puts a number at the end of a list.
 fn push_number(numbers: &mut Vec<u32>, number: u32) -> Result<(), AllocError>
@@ -25,11 +33,7 @@ fn push_number(numbers: &mut Vec<u32>, number: u32) -> Result<(), AllocError>
 }
 
 /// Makes a form, and puts its number at the end of a list.
-pub fn push_made(
-    store: &mut Store,
-    numbers: &mut Vec<u32>,
-    form: Form,
-) -> Result<(), AllocError>
+pub fn push_made(store: &mut Store, numbers: &mut Vec<u32>, form: Form) -> Result<(), AllocError>
     requires room { length store.now < 2 ^ 32 - 1 }
     requires fits { FormFits store.now form }
     ensures table { OnOk result (store.new ≡ (made store.old form).table) }
@@ -40,7 +44,7 @@ pub fn push_made(
 }
 
 /// Makes two forms, and puts their numbers at the end of a list.
-#[tactic(auto, using(crate::proofs::Made::made_most))]
+#[tactic(auto, using(term_store::proofs::Made::made_most))]
 fn push_two(
     store: &mut Store,
     numbers: &mut Vec<u32>,
@@ -59,13 +63,7 @@ fn push_two(
 }
 
 /// Of `c + a + b`: the sum modulo 2^64, and the carry.
-#[tactic(
-    auto,
-    using(
-        crate::proofs::SourceRows::three_fit,
-        crate::proofs::SourceRows::carry_fits
-    )
-)]
+#[tactic(auto, using(crate::proofs::SourceRows::three_fit, crate::proofs::SourceRows::carry_fits))]
 fn push_carry(
     alloc: Global,
     store: &mut Store,
@@ -86,13 +84,7 @@ fn push_carry(
 }
 
 /// Of `a - b - c`: the difference modulo 2^64, and the borrow.
-#[tactic(
-    auto,
-    using(
-        crate::proofs::SourceRows::three_fit,
-        crate::proofs::SourceRows::borrow_fits
-    )
-)]
+#[tactic(auto, using(crate::proofs::SourceRows::three_fit, crate::proofs::SourceRows::borrow_fits))]
 fn push_borrow(
     alloc: Global,
     store: &mut Store,
@@ -113,14 +105,7 @@ fn push_borrow(
 }
 
 /// Of two words as one, `lo` and `hi`: the low word, shifted right.
-#[tactic(
-    auto,
-    using(
-        crate::proofs::SourceRows::one_fits,
-        crate::proofs::SourceRows::two_fit,
-        crate::proofs::Made::prefix_length
-    )
-)]
+#[tactic(auto, using(crate::proofs::SourceRows::shift_fits))]
 fn push_shifted(
     alloc: Global,
     store: &mut Store,
@@ -138,8 +123,7 @@ fn push_shifted(
         ++ (results_made (kinds.Shrd k) store.old lo hi 0).numbers) }
 {
     let low = make(store, Form::Shr { x: lo, k })?;
-    let times = 1 << (64 - k);
-    let part = lin1(alloc, 0, Term { times, node: hi })?;
+    let part = lin1(alloc, 0, times(1 << (64 - k), hi))?;
     let high = make(store, part)?;
     let sum = sum2(alloc, plus(low), plus(high))?;
     push_made(store, numbers, sum)
@@ -198,7 +182,8 @@ pub fn push_results(
     requires count { HasShift kind }
     requires nodes { AreOperandNodes store.now kind a b c }
     ensures table { OnOk result (store.new ≡ (results_made kind store.old a b c).table) }
-    ensures numbers { OnOk result (numbers.new.items ≡ numbers.old.items ++ (results_made kind store.old a b c).numbers) }
+    ensures numbers { OnOk result (numbers.new.items ≡ numbers.old.items
+        ++ (results_made kind store.old a b c).numbers) }
 {
     match kind {
         Kind::AddCarry => push_carry(alloc, store, numbers, a, b, c),
@@ -213,7 +198,7 @@ pub fn push_results(
         Kind::Xor => push_made(store, numbers, Form::Xor(a, b)),
         Kind::Not => push_lin(alloc, store, numbers, u64::MAX, minus(a)),
         Kind::Copy => push_number(numbers, a),
-        Kind::Shl(k) => push_lin(alloc, store, numbers, 0, Term { times: 1 << k, node: a }),
+        Kind::Shl(k) => push_lin(alloc, store, numbers, 0, times(1 << k, a)),
         Kind::Shr(k) => push_made(store, numbers, Form::Shr { x: a, k }),
         Kind::Shrd(k) => push_shifted(alloc, store, numbers, k, a, b),
     }

@@ -148,7 +148,11 @@ fn output_nodes(
 /// Makes the nodes of a program in an empty table: those of the registers' starts, then those of the input words, and
 /// then for each operation those of its operands and of its results. The one error is want of memory.
 #[tactic(auto, unfolding(crate::specs::Sources::source_made, crate::specs::Sources::source_outputs))]
-pub fn source(alloc: Global, store: &mut Store, program: &Program) -> Result<SourceNodes, AllocError>
+pub fn source(
+    alloc: Global,
+    store: &mut Store,
+    program: &Program,
+) -> Result<SourceNodes, AllocError>
     requires { store.now ≡ [] }
     ensures table { OnOk result (store.new ≡ (sources.source_made program.entry.now).table) }
     ensures outputs { IfOk result (λ nodes. nodes ≡ sources.source_outputs program.entry.now) }

@@ -1,6 +1,5 @@
 -- The lemmas of this crate, one subject a file.
 pub mod Prefixes
-pub mod Words
 pub mod Values
 pub mod Places
 pub mod Index

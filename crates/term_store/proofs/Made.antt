@@ -10,7 +10,10 @@ use Rattle.terms.specs.declared.nodes.Built.TheVariants.{Is, Make}
 use Rattle.terms.specs.Tables.{node_at, Prefix, IsTable}
 use Rattle.terms.specs.Forms.{FormFits, BuiltFits}
 use Rattle.terms.specs.Meaning.{Start, kind_value, form_value, IsValuation, IsSound, Admits, Stands}
-use Rattle.terms.specs.Rules.{normal_of}
+use Rattle.terms.specs.Rules.{by_number, normal_of}
+use Rattle.terms.proofs.Bits.{carry_bit, borrow_bit}
+use Rattle.terms.proofs.Highs.{IsHighBuilt, zero_high}
+use Rattle.terms.proofs.NormalForms.{normal_stands, normal_fits}
 use Rattle.term_store.specs.Interning.{Interned, place_of, interned, made}
 use Rattle.term_store.proofs.Prefixes.{prefix_refl, prefix_push, prefix_length, at_end, at_front, valuation_front}
 use Rattle.term_store.proofs.Prefixes.{sound_front}
@@ -71,39 +74,34 @@ interned_place t node =
       before = λ j h same. no_place t node e j h (sym (at_front j (prefix_push t node) h) ∙ same);
     })
 
-module _ (normal_fits : (table : List Node) (form : Form) → IsTable table → FormFits table form
-    → BuiltFits table (normal_of table form)) where
-  pub made_table : (t : List Node) (form : Form) → IsTable t → FormFits t form → IsTable (made t form).table
-  made_table t form table fits =
-      by_made (λ (r : Interned). IsTable r.table) t form (λ n e. table)
-      (λ node e. by_interned (λ (r : Interned). IsTable r.table) t node (λ n p. table)
-      (λ p. table_push t node table (subst (BuiltFits t) e (normal_fits t form table fits)) p))
+pub made_table : (t : List Node) (form : Form) → IsTable t → FormFits t form → IsTable (made t form).table
+made_table t form table fits =
+    by_made (λ (r : Interned). IsTable r.table) t form (λ n e. table)
+    (λ node e. by_interned (λ (r : Interned). IsTable r.table) t node (λ n p. table)
+    (λ p. table_push t node table (subst (BuiltFits t) e (normal_fits t form table fits)) p))
 
-  pub made_below : (t : List Node) (form : Form) → IsTable t → FormFits t form
-      → (made t form).number < length (made t form).table
-  made_below t form table fits =
-      by_made (λ (r : Interned). r.number < length r.table) t form
-      (λ n e. subst (BuiltFits t) e (normal_fits t form table fits))
-      (λ node e. (interned_place t node).within)
+pub made_below : (t : List Node) (form : Form) → IsTable t → FormFits t form
+    → (made t form).number < length (made t form).table
+made_below t form table fits =
+    by_made (λ (r : Interned). r.number < length r.table) t form
+    (λ n e. subst (BuiltFits t) e (normal_fits t form table fits))
+    (λ node e. (interned_place t node).within)
 
 -- ---- its word
 
-module _ (normal_stands : (start : Start) (val : ℕ → ℕ) (table : List Node) (form : Form) → IsTable table
-    → FormFits table form → IsValuation start table val → IsSound table val → Admits start form
-    → Stands start val (form_value start val form) (normal_of table form)) where
-  pub made_value : (start : Start) (val : ℕ → ℕ) (t : List Node) (form : Form) → IsTable t → FormFits t form
-      → Admits start form → IsValuation start (made t form).table val → IsSound (made t form).table val
-      → val (made t form).number ≡ form_value start val form
-  made_value start val t form table fits admits valued sound =
-      let stands = normal_stands start val t form table fits (valuation_front (made_prefix t form) valued)
-      (sound_front (made_prefix t form) sound) admits in
-      by_made (λ (r : Interned). IsValuation start r.table val → val r.number ≡ form_value start val form) t form
-      (λ n e v. subst (Stands start val (form_value start val form)) e stands)
-      (λ node e v.
-      let here = interned_place t node in
-      let word = subst (Stands start val (form_value start val form)) e stands in
-      v.meets (interned t node).number here.within
-      ∙ ap (λ (o : Node). kind_value start val o.kind) here.here ∙ word.0) valued
+pub made_value : (start : Start) (val : ℕ → ℕ) (t : List Node) (form : Form) → IsTable t → FormFits t form
+    → Admits start form → IsValuation start (made t form).table val → IsSound (made t form).table val
+    → val (made t form).number ≡ form_value start val form
+made_value start val t form table fits admits valued sound =
+    let stands = normal_stands start val t form table fits (valuation_front (made_prefix t form) valued)
+    (sound_front (made_prefix t form) sound) admits in
+    by_made (λ (r : Interned). IsValuation start r.table val → val r.number ≡ form_value start val form) t form
+    (λ n e v. subst (Stands start val (form_value start val form)) e stands)
+    (λ node e v.
+    let here = interned_place t node in
+    let word = subst (Stands start val (form_value start val form)) e stands in
+    v.meets (interned t node).number here.within
+    ∙ ap (λ (o : Node). kind_value start val o.kind) here.here ∙ word.0) valued
 
 -- ---- how high it is
 
@@ -115,14 +113,6 @@ IsBitForm (forms.Borrow a list) = Unit {0}
 IsBitForm (forms.Zero x) = Unit {0}
 IsBitForm _ = ⊥
 
--- the interval of what was made is not higher
-abbrev pub IsHighBuilt : List Node → ℕ → Built → Type 0
-IsHighBuilt table h (Is n) = (node_at table n).high ≤ h
-IsHighBuilt table h (Make node) = node.high ≤ h
-
-abbrev pub IsBitBuilt : List Node → Built → Type 0
-IsBitBuilt table built = IsHighBuilt table 1 built
-
 pub made_high : (t : List Node) (form : Form) (h : ℕ) → IsHighBuilt t h (normal_of t form)
     → (node_at (made t form).table (made t form).number).high ≤ h
 made_high t form h built =
@@ -130,11 +120,27 @@ made_high t form h built =
     (λ n e. subst (IsHighBuilt t h) e built)
     (λ node e. subst (λ (o : Node). o.high ≤ h) (sym (interned_place t node).here) (subst (IsHighBuilt t h) e built))
 
-module _ (bit_built : (table : List Node) (form : Form) → IsTable table → FormFits table form → IsBitForm form
-    → IsBitBuilt table (normal_of table form)) where
-  pub made_bit : (t : List Node) (form : Form) → IsTable t → FormFits t form → IsBitForm form
-      → (node_at (made t form).table (made t form).number).high ≤ 1
-  made_bit t form table fits bit = made_high t form 1 (bit_built t form table fits bit)
+bit_built : (table : List Node) (form : Form) → IsBitForm form → IsHighBuilt table 1 (normal_of table form)
+unfolding normal_of
+bit_built table (forms.Const v) bit = bit
+bit_built table (forms.Carry list) bit = carry_bit table (by_number list)
+bit_built table (forms.Borrow a list) bit = borrow_bit table a (by_number list)
+bit_built table (forms.Zero x) bit = zero_high table x
+bit_built table (forms.Start reg) bit = absurd bit
+bit_built table (forms.In param word low high) bit = absurd bit
+bit_built table (forms.Lin k terms) bit = absurd bit
+bit_built table (forms.MulLo a b) bit = absurd bit
+bit_built table (forms.MulHi a b) bit = absurd bit
+bit_built table (forms.And a b) bit = absurd bit
+bit_built table (forms.Or a b) bit = absurd bit
+bit_built table (forms.Xor a b) bit = absurd bit
+bit_built table (forms.Shr x k) bit = absurd bit
+bit_built table (forms.Select c x y) bit = absurd bit
+bit_built table (forms.SetB v b) bit = absurd bit
+
+pub made_bit : (t : List Node) (form : Form) → IsTable t → FormFits t form → IsBitForm form
+    → (node_at (made t form).table (made t form).number).high ≤ 1
+made_bit t form table fits bit = made_high t form 1 (bit_built t form bit)
 
 -- ---- made again, over a longer table
 

@@ -5,15 +5,14 @@ use Rattle.terms.specs.declared.nodes.Node.{Node}
 use Rattle.terms.specs.declared.nodes.NodeKind.{NodeKind}
 use Rattle.terms.specs.declared.nodes.NodeKind.TheVariants as kinds
 use Rattle.terms.specs.declared.nodes.Built.{Built}
-use Rattle.terms.specs.declared.nodes.Built.TheVariants.{Is, Make}
 use Rattle.terms.specs.Tables.{node_at}
 use Rattle.terms.specs.Rules.{finished, is_const, low_at, high_at, a_bit, passes, without_zeros}
 use Rattle.terms.specs.Rules.{carry_left, carry_of, borrow_left, borrow_of}
 use Rattle.terms.proofs.Cases.{by_if, from_leb, second_true}
+use Rattle.terms.proofs.Highs.{IsHighBuilt}
 
 abbrev pub IsBitBuilt : List Node → Built → Type 0
-IsBitBuilt table (Is n) = (node_at table n).high ≤ 1
-IsBitBuilt table (Make node) = node.high ≤ 1
+IsBitBuilt table built = IsHighBuilt table 1 built
 
 bit_made : (kind : NodeKind) → (finished kind a_bit).high ≤ 1
 unfolding finished

@@ -1,5 +1,4 @@
 -- The three nodes are those of the operation's operands.
-use Rattle.std.proofs.Common.{◌≡◌}
 use Rattle.symbolic_values.proofs.SourceTables.{next_nodes}
 use Rattle.symbolic_values.proofs.operands.push_op.Goals as goal
 

@@ -1,8 +1,9 @@
 -- The second form fits the table that the first one leaves.
-use Rattle.std.proofs.Common.{◌≡◌, sym, subst}
+use Rattle.std.proofs.Common.{sym, subst}
 use Rattle.terms.specs.Forms.{FormFits}
-use Rattle.symbolic_values.proofs.Made.{fits_later, made_prefix}
 use Rattle.symbolic_values.proofs.results.push_two.Goals as goal
+use Rattle.term_store.proofs.Prefixes.{fits_later}
+use Rattle.term_store.proofs.Made.{made_prefix}
 
 pub push_made-requires-2-clause-fits : goal.push_made-requires-2-clause-fits
 push_made-requires-2-clause-fits c =

@@ -1,13 +1,11 @@
 -- What stands before the first operation is a table that forms of the program made.
-use Rattle.std.proofs.Common.{◌≡◌, ◌<◌, ◌≤◌, ◌+◌, [], List, length, sym, subst, arith}
+use Rattle.std.proofs.Common.{◌≡◌, ◌≤◌, ◌+◌, [], List, length, sym, subst, arith}
 use Rattle.std.specs.List.{AllByRecursion}
 use Rattle.word_program.specs.declared.parameter.Param.{Param}
 use Rattle.word_program.specs.Accepted.{IsAccepted, IsParam}
 use Rattle.word_program.specs.Program.{Source}
 use Rattle.terms.specs.declared.nodes.Node.{Node}
 use Rattle.symbolic_values.specs.Fitting.{IsProgramForm}
-use Rattle.symbolic_values.specs.Sources.{inputs_from}
-use Rattle.term_store.specs.Interning.{made_all}
 use Rattle.symbolic_values.proofs.Growing.{Grows}
 use Rattle.symbolic_values.proofs.FormSteps.{start_grown, starts_few}
 use Rattle.symbolic_values.proofs.source_nodes.source.Goals as goal

@@ -1,5 +1,5 @@
 -- One operation more.
-use Rattle.std.proofs.Common.{◌≡◌, ◌<◌, ◌+◌, ◌*◌, ◌≤◌, ◌∷◌, List, ℕ, drop, get_or, length, sym, ap, ◌∙◌, subst, arith, rules}
+use Rattle.std.proofs.Common.{◌≡◌, ◌<◌, ◌+◌, ◌∷◌, drop, get_or, length, sym, ap, ◌∙◌, subst, arith}
 use Rattle.std.proofs.lemmas.List.{drop_more}
 use Rattle.std.specs.Prelude.{fold}
 use Rattle.word_program.specs.declared.operation.Op.{Op}
@@ -28,7 +28,9 @@ loop-op-preserved c =
     let longer : length c.push_op.new.store ≡ length (and_op params m op).table = ap length t in
     let so_far = c.loop-op.invariant.few in
     record {
-      made = c.loop-op.invariant.made ∙ ap (fold (and_op params) m) left ∙ ap (λ (k : AllMade). fold (and_op params) k rest) next;
-      behind = subst (λ (k : AllMade). IsBehind params k rest) next (behind_next params c.requires.params m op rest behind);
+      made = c.loop-op.invariant.made ∙ ap (fold (and_op params) m) left
+          ∙ ap (λ (k : AllMade). fold (and_op params) k rest) next;
+      behind = subst (λ (k : AllMade). IsBehind params k rest) next
+          (behind_next params c.requires.params m op rest behind);
       few = omega arith;
     }
