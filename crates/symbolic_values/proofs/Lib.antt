@@ -12,7 +12,6 @@ pub mod RowValues
 pub mod SourceValues
 pub mod SourceOutputs
 pub mod FormSteps
-pub mod MadeFacts
 pub mod LaterTables
 pub mod Bases
 pub mod Shapes

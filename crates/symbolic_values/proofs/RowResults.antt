@@ -13,14 +13,13 @@ use Rattle.terms.specs.Tables.{IsTable}
 use Rattle.terms.specs.Forms.{FormFits}
 use Rattle.terms.specs.Meaning.{form_value}
 use Rattle.term_store.specs.Interning.{made}
-use Rattle.term_store.proofs.Made.{IsBitForm}
+use Rattle.term_store.proofs.Made.{IsBitForm, made_bit}
 use Rattle.term_store.proofs.Prefixes.{fits_later, prefix_length}
 use Rattle.symbolic_values.specs.declared.touch.Touch.{Touch}
 use Rattle.symbolic_values.specs.Symbols.{Symbols, node_in, with_flags, with_touch}
 use Rattle.symbolic_values.specs.Steps.{Step, goes, write, arithmetic, logic, result_only}
 use Rattle.symbolic_values.specs.Fitting.{IsBit, FitsTable}
 use Rattle.symbolic_values.specs.Covering.{FlagAgrees}
-use Rattle.symbolic_values.proofs.MadeFacts.{made_bit}
 use Rattle.symbolic_values.proofs.LaterTables.{bit_later, fits_table_later, fits_flags, fits_write}
 use Rattle.symbolic_values.proofs.KnownCells.{same_nodes}
 use Rattle.symbolic_values.proofs.StepRows.{Run, Agreed, Valued, IsPlain, Row, start_in}

@@ -14,13 +14,13 @@ use Rattle.terms.specs.Forms.{FormFits}
 use Rattle.terms.specs.Grown.{IsGrown}
 use Rattle.terms.specs.Meaning.{Start, IsSound, IsValuation, Admits, form_value}
 use Rattle.term_store.specs.Interning.{Interned, made}
-use Rattle.term_store.proofs.Made.{made_prefix}
+use Rattle.term_store.proofs.Growth.{made_grown}
+use Rattle.term_store.proofs.Made.{made_below, made_prefix, made_table, made_value}
 use Rattle.term_store.proofs.Prefixes.{prefix_refl, prefix_trans, sound_front, valuation_front}
 use Rattle.symbolic_values.specs.Symbols.{Symbols}
 use Rattle.symbolic_values.specs.Steps.{Step, stuck, on_flag}
 use Rattle.symbolic_values.specs.Fitting.{FitsTable, HasShape}
 use Rattle.symbolic_values.specs.Covering.{Agrees, start_of}
-use Rattle.symbolic_values.proofs.MadeFacts.{made_below, made_grown, made_table, made_value}
 
 -- ---- runs
 

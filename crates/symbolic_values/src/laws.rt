@@ -21,7 +21,8 @@ pub fn source_nodes_have_values()
         → IsRunOn program inputs start val → map val (source_outputs program) ≡ values.outputs program inputs }
 {}
 
-/// The symbolic step of every instruction, over every table and from every state, covers the machine's step.
+/// The symbolic step of every instruction within its ranges, over every table and from every state that fits it, covers
+/// the machine's step.
 pub fn symbolic_steps_cover_steps()
     ensures { (i : Instr) (table : List Node) (y : Symbols) → Covers i table y }
 {}
