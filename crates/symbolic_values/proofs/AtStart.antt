@@ -26,15 +26,12 @@ use Rattle.x86_meaning.specs.declared.state.State.{State}
 use Rattle.x86_meaning.specs.Start.{Area, Array, Frame, Return, IsStart, address_of, param_reg}
 use Rattle.x86_meaning.proofs.Keeping.{keeps_start}
 use Rattle.terms.specs.declared.nodes.Node.{Node}
-use Rattle.terms.specs.declared.nodes.NodeKind.TheVariants as kinds
-use Rattle.terms.specs.Meaning.{IsValuation, kind_value}
-use Rattle.terms.specs.Tables.{node_at}
 use Rattle.symbolic_values.specs.Symbols as symbols
 use Rattle.symbolic_values.specs.Symbols.{Symbols, node_in}
 use Rattle.symbolic_values.specs.Cells.{known, node_of}
 use Rattle.symbolic_values.specs.Sources.{array_at_start, arrays_at_start, input_node, symbols_at_start, with_scalars}
 use Rattle.symbolic_values.specs.Fitting.{AreKnown, FitsTable, HasShape, HaveShapes}
-use Rattle.symbolic_values.specs.Covering.{Agrees, start_of}
+use Rattle.symbolic_values.specs.Covering.{Agrees}
 use Rattle.symbolic_values.proofs.KnownCells.{all_at, array_known}
 use Rattle.symbolic_values.proofs.LaterTables.{number_below}
 
@@ -257,8 +254,7 @@ module _ (program : Source) (accepted : IsAccepted program) (t : List Node) (lon
     -- ---- in a run
 
     module _ (lines : List Line) (inputs : List ℕ) (first : State) (start : IsStart program lines inputs first)
-        (val : ℕ → ℕ) (is : IsValuation (start_of program.params inputs first) t val)
-        (starts : (k : ℕ) → k < 16 → (node_at t k).kind ≡ kinds.Start k)
+        (val : ℕ → ℕ) (starts : (k : ℕ) → k < 16 → val k ≡ slice_index first.regs k)
         (words : (param word : ℕ) → IsInput program.params param word
         → val (input_node t program.params param word) ≡ input_word program.params inputs param word) where
       -- a list of nodes whose words are those of the registers
@@ -272,9 +268,7 @@ module _ (program : Source) (accepted : IsAccepted program) (t : List Node) (lon
         each = λ k h.
             let e = get_or-range_with_len 0 16 k 0 h in
             let same : k ≡ slice_index (range_with_len 0 16) k = omega (arith, e) in
-            sym (is.meets k (omega (arith, h))
-            ∙ ap (λ kind. kind_value (start_of program.params inputs first) val kind) (starts k h))
-            ∙ ap val same;
+            sym (starts k h) ∙ ap val same;
       }
 
       scalar_word_is : (from : ℕ) (p : Param) → slice_get program.params from ≡ Some p → is_scalar p.role ≡ true

@@ -1,15 +1,17 @@
 -- The facts of a step over a table, one by one: what its table is, that its state fits, and that it covers the
 -- machine's step.
 use Rattle.std.proofs.Common.{◌≡◌, List, Option, Some, None, IfSome, subst}
+use Rattle.word_program.specs.declared.parameter.Param.{Param}
 use Rattle.x86_instr.specs.declared.instr.Instr.{Instr}
 use Rattle.x86_instr.specs.Frame.{frame_of}
 use Rattle.terms.specs.declared.nodes.Node.{Node}
 use Rattle.terms.specs.declared.nodes.Form.{Form}
+use Rattle.terms.specs.declared.nodes.Form.TheVariants as forms
 use Rattle.terms.specs.Tables.{IsTable}
 use Rattle.terms.specs.Grown.{IsGrown}
 use Rattle.symbolic_values.specs.Symbols.{Symbols}
 use Rattle.symbolic_values.specs.Steps.{step_of}
-use Rattle.symbolic_values.specs.Fitting.{FitsTable}
+use Rattle.symbolic_values.specs.Fitting.{FitsTable, IsProgramForm}
 use Rattle.symbolic_values.specs.Covering.{Covers}
 use Rattle.symbolic_values.proofs.AllSteps.{step_whole}
 use Rattle.symbolic_values.proofs.RowResults.{agrees_touch}
@@ -21,6 +23,12 @@ use Rattle.symbolic_values.proofs.Wholes.{StepsIn}
 there : {X : Type 0} (P : X → Type 0) (o : Option X) (x : X) → o ≡ Some x → IfSome o P → P x
 there P o x e p = subst (λ v. IfSome v P) e p
 
+-- a plain form is one that may be made for any program
+plain_is_of_program : (params : List Param) (f : Form) → IsPlain f → IsProgramForm params f
+plain_is_of_program params (forms.Start reg) plain = absurd plain
+plain_is_of_program params (forms.In param word low high) plain = absurd plain
+plain_is_of_program params _ plain = tt
+
 module _ (i : Instr) (t : List Node) (y : Symbols) (table : IsTable t) (fits : FitsTable t y) where
   pub step_table : IsTable (step_of i t y).table
   step_table = (step_whole i t y table fits).grows.table
@@ -29,6 +37,10 @@ module _ (i : Instr) (t : List Node) (y : Symbols) (table : IsTable t) (fits : F
   pub step_grown : (P : Form → Type 0) → ((f : Form) → IsPlain f → P f) → IsGrown P t
       → IsGrown P (step_of i t y).table
   step_grown = (step_whole i t y table fits).grows.grown
+
+  pub step_program_grown : (params : List Param) → IsGrown (IsProgramForm params) t
+      → IsGrown (IsProgramForm params) (step_of i t y).table
+  step_program_grown params = step_grown (IsProgramForm params) (plain_is_of_program params)
 
   pub step_fits : (z : Symbols) → (step_of i t y).state ≡ Some z → FitsTable (step_of i t y).table z
   step_fits z e = there (FitsTable (step_of i t y).table) (step_of i t y).state z e (step_whole i t y table fits).fits

@@ -16,6 +16,7 @@ pub mod Stored
 pub mod StoreRow
 pub mod AllSteps
 pub mod AtStart
+pub mod StartsAgree
 pub mod StepTables
 pub mod Covered
 pub mod NeatNodes

@@ -14,12 +14,12 @@ use Rattle.terms.specs.Tables.{AreTermsBelow, IsTable}
 use Rattle.terms.specs.Forms.{FormFits}
 use Rattle.terms.specs.Meaning.{form_value, weighted}
 use Rattle.term_store.specs.Interning.{made}
+use Rattle.term_store.proofs.Made.{made_bit}
 use Rattle.term_store.proofs.Prefixes.{prefix_length}
 use Rattle.symbolic_values.specs.Symbols.{Symbols, node_in}
 use Rattle.symbolic_values.specs.Cells.{address_form, index_terms, term}
 use Rattle.symbolic_values.specs.Steps.{arithmetic, clc_step, logic, minus, neg_step, result_only, sum, un_step}
 use Rattle.symbolic_values.specs.Fitting.{FitsTable}
-use Rattle.term_store.proofs.Made.{made_bit}
 use Rattle.symbolic_values.proofs.BinRows.{terms_below, numbers_below}
 use Rattle.symbolic_values.proofs.LaterTables.{fits_flags, fits_table_later, node_inside}
 use Rattle.symbolic_values.proofs.RowResults.{agrees_written, arithmetic_row, logic_row, result_row}
