@@ -1,0 +1,121 @@
+-- The run of a proved listing, line by line: where the symbolic run ends, the machine's run does, and the two states
+-- agree all along.
+use Rattle.std.proofs.Common.{◌≡◌, ℕ, ◌+◌, Bool, true, false, List, [], ◌∷◌, Option, Some, None, refl, sym, ap, ◌∙◌, subst}
+use Rattle.std.specs.Prelude.{MatchOption, if◌then◌else◌}
+use Rattle.std.specs.Bool.{MatchBool}
+use Rattle.base.specs.Options.{pick}
+use Rattle.word_program.specs.Program.{Source}
+use Rattle.x86_instr.specs.declared.instr.Instr.{Instr}
+use Rattle.x86_instr.specs.declared.line.Line.{Line}
+use Rattle.x86_instr.specs.Frame.{frame_of}
+use Rattle.x86_instr.specs.Listings.{is_ret}
+use Rattle.x86_meaning.specs.declared.state.State.{State}
+use Rattle.x86_meaning.specs.Correct.{Keeps}
+use Rattle.x86_meaning.specs.Machine as machine
+use Rattle.x86_meaning.specs.Runs.{Runs}
+use Rattle.x86_meaning.specs.Start.{IsStart}
+use Rattle.terms.specs.declared.nodes.Node.{Node}
+use Rattle.terms.specs.Meaning.{IsSound, IsValuation, Start}
+use Rattle.terms.specs.Tables.{IsTable, Prefix}
+use Rattle.symbolic_values.specs.Symbols.{Symbols}
+use Rattle.symbolic_values.specs.Fitting.{FitsTable, HasShape}
+use Rattle.symbolic_values.specs.Covering.{Agrees, Covers, Steps, start_of}
+use Rattle.symbolic_values.specs.Steps.{step_of}
+use Rattle.equiv_validator.specs.Runs.{Ending, Ended, Stuck, SymbolicRun, run_from}
+
+stuck_is_not_ended : (n : ℕ) (y : Symbols) → Stuck n ≡ Ended y → ⊥
+stuck_is_not_ended n y e = cc
+
+ended_inj : (y z : Symbols) → Ended y ≡ Ended z → y ≡ z
+ended_inj y z e = cc
+
+-- by cases of a test
+by_ret : {A : Type 0} (P : A → Type 0) (b : Bool) (x y : A) → (b ≡ true → P x) → (b ≡ false → P y) → P (if b then x else y)
+by_ret P true x y f g = f refl
+by_ret P false x y f g = g refl
+
+-- the rest of a run, by what the step gives
+abbrev go_on : ℕ → List Line → List Node → Option Symbols → SymbolicRun
+go_on n more table state = pick state (λ z. run_from (n + 1) more table z) (record { table = table; ending = Stuck n })
+
+-- a run that has come to `ret`
+abbrev at_ret : List Node → Symbols → SymbolicRun
+at_ret table y = record { table = table; ending = Ended y }
+
+module _
+  (prefix_refl : (t : List Node) → Prefix t t)
+  (prefix_trans : (t u v : List Node) → Prefix t u → Prefix u v → Prefix t v)
+  (valuation_front : (start : Start) (val : ℕ → ℕ) (t u : List Node) → Prefix t u → IsValuation start u val → IsValuation start t val)
+  (sound_front : (val : ℕ → ℕ) (t u : List Node) → Prefix t u → IsSound u val → IsSound t val)
+  (step_prefix : (i : Instr) (t : List Node) (y : Symbols) → Prefix t (step_of i t y).table)
+  (step_table : (i : Instr) (t : List Node) (y : Symbols) → IsTable t → FitsTable t y → IsTable (step_of i t y).table)
+  (step_fits : (i : Instr) (t : List Node) (y : Symbols) → IsTable t → FitsTable t y → (z : Symbols) → (step_of i t y).state ≡ Some z → FitsTable (step_of i t y).table z)
+  (step_shape : (program : Source) (frame : ℕ) (i : Instr) (t : List Node) (y z : Symbols) → HasShape program frame y → (step_of i t y).state ≡ Some z → HasShape program frame z)
+  (covers : (i : Instr) (t : List Node) (y : Symbols) → Covers i t y)
+  where
+  prefix_on : (n : ℕ) (more : List Line) (t u : List Node) (state : Option Symbols) → Prefix t u
+      → ((z : Symbols) → Prefix u (run_from (n + 1) more u z).table) → Prefix t (go_on n more u state).table
+  prefix_on n more t u None p rest = p
+  prefix_on n more t u (Some z) p rest = prefix_trans t u _ p (rest z)
+
+  pub run_prefix : (lines : List Line) (n : ℕ) (t : List Node) (y : Symbols) → Prefix t (run_from n lines t y).table
+  run_prefix [] n t y = prefix_refl t
+  run_prefix (line ∷ more) n t y =
+      by_ret (λ (r : SymbolicRun). Prefix t r.table) (is_ret line.instr) (at_ret t y)
+      (go_on n more (step_of line.instr t y).table (step_of line.instr t y).state) (λ _. prefix_refl t)
+      (λ _. prefix_on n more t (step_of line.instr t y).table (step_of line.instr t y).state (step_prefix line.instr t y)
+          (λ z. run_prefix more (n + 1) (step_of line.instr t y).table z))
+
+  module _ (program : Source) (lines : List Line) (inputs : List ℕ) (first : State)
+    (begins : IsStart program lines inputs first) (val : ℕ → ℕ) (T : List Node)
+    (valued : IsValuation (start_of program.params inputs first) T val) (sound : IsSound T val) (last : Symbols)
+    (Q : State → Type 0)
+    (returns : (u : State) → Agrees program (frame_of lines) first val last u → Q u)
+    where
+    abbrev Kept : State → Type 0
+    Kept t = Keeps program.params (frame_of lines) first t.cells
+
+    -- the symbolic run from here leaves a table that begins T, and ends in `last`; the two states agree
+    abbrev Goes : List Line → ℕ → List Node → Symbols → State → Type 0
+    Goes rest n t y s = IsTable t → FitsTable t y → HasShape program (frame_of lines) y
+        → Prefix (run_from n rest t y).table T → Agrees program (frame_of lines) first val y s
+        → (run_from n rest t y).ending ≡ Ended last → Runs Kept Q rest s
+
+    on_state : (i : Instr) (more : List Line) (n : ℕ) (t : List Node) (y : Symbols) (s : State) → IsTable t
+        → FitsTable t y → HasShape program (frame_of lines) y → Agrees program (frame_of lines) first val y s
+        → ((z : Symbols) (u : State) → Goes more (n + 1) (step_of i t y).table z u)
+        → (state : Option Symbols) → (step_of i t y).state ≡ state
+        → Prefix (go_on n more (step_of i t y).table state).table T
+        → (go_on n more (step_of i t y).table state).ending ≡ Ended last
+        → MatchOption (machine.step_of i s) ⊥ (λ u. Runs Kept Q more u)
+    on_state i more n t y s o f h a rest None q p e = absurd (stuck_is_not_ended n last e)
+    on_state i more n t y s o f h a rest (Some z) q p e =
+        let next = (step_of i t y).table in
+        let front : Prefix (step_of i t y).table T =
+        prefix_trans (step_of i t y).table _ T (run_prefix more (n + 1) (step_of i t y).table z) p in
+        let c = covers i t y o f program lines inputs first s val begins h z q
+        (valuation_front (start_of program.params inputs first) val (step_of i t y).table T front valued)
+        (sound_front val (step_of i t y).table T front sound) a in
+        subst (λ (found : Option State). MatchOption found ⊥ (λ u. Runs Kept Q more u)) (sym c.goes)
+        (rest z c.next (step_table i t y o f) (step_fits i t y o f z q)
+        (step_shape program (frame_of lines) i t y z h q) p c.agrees e)
+
+    on_ret : (i : Instr) (more : List Line) (n : ℕ) (t : List Node) (y : Symbols) (s : State) → IsTable t
+        → FitsTable t y → HasShape program (frame_of lines) y → Agrees program (frame_of lines) first val y s
+        → ((z : Symbols) (u : State) → Goes more (n + 1) (step_of i t y).table z u)
+        → (b : Bool)
+        → Prefix (if b then at_ret t y
+            else go_on n more (step_of i t y).table (step_of i t y).state).table T
+        → (if b then at_ret t y
+            else go_on n more (step_of i t y).table (step_of i t y).state).ending ≡ Ended last
+        → MatchBool b (Q s) (Kept s × MatchOption (machine.step_of i s) ⊥ (λ u. Runs Kept Q more u))
+    on_ret i more n t y s o f h a rest true p e =
+        returns s (subst (λ (z : Symbols). Agrees program (frame_of lines) first val z s) (ended_inj y last e) a)
+    on_ret i more n t y s o f h a rest false p e =
+        (a.keeps, on_state i more n t y s o f h a rest (step_of i t y).state refl p e)
+
+    pub runs : (rest : List Line) (n : ℕ) (t : List Node) (y : Symbols) (s : State) → Goes rest n t y s
+    runs [] n t y s o f h p a e = stuck_is_not_ended n last e
+    runs (line ∷ more) n t y s o f h p a e =
+        on_ret line.instr more n t y s o f h a
+        (λ z u. runs more (n + 1) (step_of line.instr t y).table z u) (is_ret line.instr) p e
