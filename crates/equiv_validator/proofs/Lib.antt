@@ -1,2 +1,3 @@
 -- The lemmas of this crate, one subject a file.
 pub mod Induction
+pub mod OutputNodes
