@@ -1,3 +1,4 @@
 -- The lemmas of this crate, one subject a file.
 pub mod Induction
 pub mod OutputNodes
+pub mod ProvedCorrect
