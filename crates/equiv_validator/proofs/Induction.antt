@@ -14,7 +14,9 @@ use Rattle.x86_meaning.specs.Correct.{Keeps}
 use Rattle.x86_meaning.specs.Machine as machine
 use Rattle.x86_meaning.specs.Runs.{Runs}
 use Rattle.x86_meaning.specs.Start.{IsStart}
+use Rattle.terms.specs.declared.nodes.Form.{Form}
 use Rattle.terms.specs.declared.nodes.Node.{Node}
+use Rattle.terms.specs.Grown.{IsGrown}
 use Rattle.terms.specs.Meaning.{IsSound, IsValuation, Start}
 use Rattle.terms.specs.Tables.{IsTable, Prefix}
 use Rattle.symbolic_values.specs.Symbols.{Symbols}
@@ -66,11 +68,35 @@ module _
       (λ _. prefix_on n more t (step_of line.instr t y).table (step_of line.instr t y).state (step_prefix line.instr t y)
           (λ z. run_prefix more (n + 1) (step_of line.instr t y).table z))
 
+  -- the tables of a run are tables that the rules have made
+  module _ (P : Form → Type 0)
+    (step_grown : (i : Instr) (t : List Node) (y : Symbols) → IsTable t → FitsTable t y → IsGrown P t → IsGrown P (step_of i t y).table)
+    where
+    grown_on : (n : ℕ) (more : List Line) (u : List Node) (state : Option Symbols) → IsTable u → IsGrown P u
+        → ((z : Symbols) → state ≡ Some z → IsTable (run_from (n + 1) more u z).table
+            × IsGrown P (run_from (n + 1) more u z).table)
+        → IsTable (go_on n more u state).table × IsGrown P (go_on n more u state).table
+    grown_on n more u None o g rest = (o, g)
+    grown_on n more u (Some z) o g rest = rest z refl
+
+    pub run_grown : (lines : List Line) (n : ℕ) (t : List Node) (y : Symbols) → IsTable t → FitsTable t y → IsGrown P t
+        → IsTable (run_from n lines t y).table × IsGrown P (run_from n lines t y).table
+    run_grown [] n t y o f g = (o, g)
+    run_grown (line ∷ more) n t y o f g =
+        let next = step_of line.instr t y in
+        by_ret (λ (r : SymbolicRun). IsTable r.table × IsGrown P r.table) (is_ret line.instr) (at_ret t y)
+        (go_on n more (step_of line.instr t y).table (step_of line.instr t y).state) (λ _. (o, g))
+        (λ _. grown_on n more (step_of line.instr t y).table (step_of line.instr t y).state
+            (step_table line.instr t y o f) (step_grown line.instr t y o f g)
+            (λ z q. run_grown more (n + 1) (step_of line.instr t y).table z (step_table line.instr t y o f)
+            (step_fits line.instr t y o f z q) (step_grown line.instr t y o f g)))
+
   module _ (program : Source) (lines : List Line) (inputs : List ℕ) (first : State)
     (begins : IsStart program lines inputs first) (val : ℕ → ℕ) (T : List Node)
     (valued : IsValuation (start_of program.params inputs first) T val) (sound : IsSound T val) (last : Symbols)
     (Q : State → Type 0)
-    (returns : (u : State) → Agrees program (frame_of lines) first val last u → Q u)
+    (returns : HasShape program (frame_of lines) last → (u : State) → Agrees program (frame_of lines) first val last u
+      → Q u)
     where
     abbrev Kept : State → Type 0
     Kept t = Keeps program.params (frame_of lines) first t.cells
@@ -110,7 +136,8 @@ module _
             else go_on n more (step_of i t y).table (step_of i t y).state).ending ≡ Ended last
         → MatchBool b (Q s) (Kept s × MatchOption (machine.step_of i s) ⊥ (λ u. Runs Kept Q more u))
     on_ret i more n t y s o f h a rest true p e =
-        returns s (subst (λ (z : Symbols). Agrees program (frame_of lines) first val z s) (ended_inj y last e) a)
+        returns (subst (HasShape program (frame_of lines)) (ended_inj y last e) h) s
+        (subst (λ (z : Symbols). Agrees program (frame_of lines) first val z s) (ended_inj y last e) a)
     on_ret i more n t y s o f h a rest false p e =
         (a.keeps, on_state i more n t y s o f h a rest (step_of i t y).state refl p e)
 

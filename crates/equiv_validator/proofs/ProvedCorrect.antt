@@ -10,7 +10,7 @@ use Rattle.base.specs.Options.{◌>>=◌}
 use Rattle.word_program.specs.Accepted.{IsAccepted}
 use Rattle.word_program.specs.declared.parameter.Param.{Param}
 use Rattle.word_program.specs.Program.{Source}
-use Rattle.word_program.specs.Values.{is_output, output_word, stored_word, targets_of}
+use Rattle.word_program.specs.Values.{input_word, is_output, output_word, stored_word, targets_of}
 use Rattle.x86_instr.specs.declared.line.Line.{Line}
 use Rattle.x86_instr.specs.declared.operand.Reg.{Reg}
 use Rattle.x86_instr.specs.declared.operand.Reg.TheVariants.{Rbx, Rbp, Rsp, R12, R13, R14, R15}
@@ -21,14 +21,21 @@ use Rattle.x86_meaning.specs.Correct.{IsCorrect, Returns, preserved}
 use Rattle.x86_meaning.specs.Machine.{reg}
 use Rattle.x86_meaning.specs.Start.{Array, IsStart, address_of, output_words}
 use Rattle.terms.specs.declared.nodes.Node.{Node}
-use Rattle.terms.specs.Meaning.{IsSound, IsValuation}
+use Rattle.terms.specs.declared.nodes.Form.{Form}
+use Rattle.terms.specs.Grown.{IsGrown}
+use Rattle.terms.specs.Meaning.{Admits, IsSound, IsValuation, Start, node_value}
+use Rattle.terms.specs.Tables.{IsTable, Prefix}
+use Rattle.x86_instr.specs.declared.instr.Instr.{Instr}
 use Rattle.symbolic_values.specs.Symbols.{Symbols, node_in}
 use Rattle.symbolic_values.specs.Cells.{known}
-use Rattle.symbolic_values.specs.Covering.{Agrees, start_of}
-use Rattle.symbolic_values.specs.Fitting.{HasShape}
-use Rattle.symbolic_values.specs.Sources.{source_made, source_outputs}
+use Rattle.symbolic_values.specs.Covering.{Agrees, Covers, start_of}
+use Rattle.symbolic_values.specs.Fitting.{FitsTable, HasShape, IsProgramForm}
+use Rattle.symbolic_values.specs.Sources.{source_made, source_outputs, symbols_at_start}
+use Rattle.symbolic_values.specs.Steps.{step_of}
 use Rattle.symbolic_values.specs.Written.{words_written}
 use Rattle.equiv_validator.specs.Checks.{HasOutputs, IsProved, IsRestored, saved}
+use Rattle.equiv_validator.specs.Runs.{run_from, run_of}
+use Rattle.equiv_validator.proofs.Induction.{run_grown, run_prefix, runs}
 use Rattle.equiv_validator.proofs.OutputNodes.{output_known}
 
 -- ---- the end of a run
@@ -77,4 +84,57 @@ module _ (program : Source) (lines : List Line) (inputs : List ℕ) (first : Sta
           (restored u a R14 regs.1.1.1.1.0, (restored u a R15 regs.1.1.1.1.1.0, (restored u a Rsp stack, tt)))))),
     );
     keeps = a.keeps;
+  }
+
+-- ---- from every start
+
+module _
+  (program : Source) (accepted : IsAccepted program)
+  (prefix_refl : (t : List Node) → Prefix t t)
+  (prefix_trans : (t u v : List Node) → Prefix t u → Prefix u v → Prefix t v)
+  (valuation_front : (start : Start) (val : ℕ → ℕ) (t u : List Node) → Prefix t u → IsValuation start u val → IsValuation start t val)
+  (sound_front : (val : ℕ → ℕ) (t u : List Node) → Prefix t u → IsSound u val → IsSound t val)
+  (step_prefix : (i : Instr) (t : List Node) (y : Symbols) → Prefix t (step_of i t y).table)
+  (step_table : (i : Instr) (t : List Node) (y : Symbols) → IsTable t → FitsTable t y → IsTable (step_of i t y).table)
+  (step_fits : (i : Instr) (t : List Node) (y : Symbols) → IsTable t → FitsTable t y → (z : Symbols) → (step_of i t y).state ≡ Some z → FitsTable (step_of i t y).table z)
+  (step_shape : (program : Source) (frame : ℕ) (i : Instr) (t : List Node) (y z : Symbols) → HasShape program frame y → (step_of i t y).state ≡ Some z → HasShape program frame z)
+  (covers : (i : Instr) (t : List Node) (y : Symbols) → Covers i t y)
+  (step_grown : (i : Instr) (t : List Node) (y : Symbols) → IsTable t → FitsTable t y → IsGrown (IsProgramForm program.params) t → IsGrown (IsProgramForm program.params) (step_of i t y).table)
+  (valuation : (start : Start) (t : List Node) → IsTable t → IsValuation start t (node_value start t))
+  (grown_sound : (P : Form → Type 0) (start : Start) (val : ℕ → ℕ) (t : List Node) → IsTable t → IsGrown P t → ((f : Form) → P f → Admits start f) → IsValuation start t val → IsSound t val)
+  (source_table : IsTable (source_made program).table)
+  (source_grown : IsGrown (IsProgramForm program.params) (source_made program).table)
+  (source_starts : (start : Start) (val : ℕ → ℕ) → IsValuation start (source_made program).table val → (r : Reg) → val (number_of r) ≡ start.regs (number_of r))
+  (source_stored : (inputs : List ℕ) (start : Start) (val : ℕ → ℕ) → IsValuation start (source_made program).table val → IsSound (source_made program).table val → start.inputs ≡ input_word program.params inputs → (param word : ℕ) → word < output_words program.params param → val (stored_word (targets_of program.ops) (source_made program).numbers param word) ≡ output_word program inputs param word)
+  (start_fits : (frame : ℕ) → FitsTable (source_made program).table (symbols_at_start (source_made program).table program frame))
+  (start_shape : (frame : ℕ) → HasShape program frame (symbols_at_start (source_made program).table program frame))
+  (start_agrees : (lines : List Line) (inputs : List ℕ) (first : State) (val : ℕ → ℕ) → IsStart program lines inputs first → IsValuation (start_of program.params inputs first) (source_made program).table val → IsSound (source_made program).table val → Agrees program (frame_of lines) first val (symbols_at_start (source_made program).table program (frame_of lines)) first)
+  (admits : (lines : List Line) (inputs : List ℕ) (first : State) → IsStart program lines inputs first → (f : Form) → IsProgramForm program.params f → Admits (start_of program.params inputs first) f)
+  where
+  abbrev T0 : List Node
+  T0 = (source_made program).table
+
+  pub proved_is_correct : (lines : List Line) → IsProved program lines → IsCorrect program lines
+  unfolding run_of
+  proved_is_correct lines proved = record {
+    runs = λ inputs first begins.
+        let y = symbols_at_start T0 program (frame_of lines) in
+        let T = (run_from 1 lines T0 (symbols_at_start T0 program (frame_of lines))).table in
+        let start = start_of program.params inputs first in
+        let val : ℕ → ℕ = node_value (start_of program.params inputs first) (run_from 1 lines T0 (symbols_at_start T0 program (frame_of lines))).table in
+        let fits = start_fits (frame_of lines) in
+        let grown = run_grown prefix_refl prefix_trans valuation_front sound_front step_prefix step_table step_fits step_shape covers (IsProgramForm program.params) step_grown lines 1 T0 (symbols_at_start T0 program (frame_of lines)) source_table fits source_grown in
+        let valued = valuation start T grown.0 in
+        let sound = grown_sound (IsProgramForm program.params) start val T grown.0 grown.1 (admits lines inputs first begins) valued in
+        let front = run_prefix prefix_refl prefix_trans valuation_front sound_front step_prefix step_table step_fits step_shape covers lines 1 T0 (symbols_at_start T0 program (frame_of lines)) in
+        let valued0 = valuation_front start val T0 T front valued in
+        let sound0 = sound_front val T0 T front sound in
+        runs prefix_refl prefix_trans valuation_front sound_front step_prefix step_table step_fits step_shape covers
+        program lines inputs first begins val T valued sound proved.last (Returns program (frame_of lines) inputs first)
+        (λ shape u a. returns program lines inputs first val proved.last shape
+            (λ r. source_starts start val valued0 r)
+            (source_stored inputs start val valued0 sound0 refl)
+            proved.outputs proved.saved_registers proved.stack u a)
+        lines 1 T0 y first source_table fits (start_shape (frame_of lines)) (prefix_refl T)
+        (start_agrees lines inputs first val begins valued0 sound0) proved.ends;
   }

@@ -1,10 +1,15 @@
 -- What holds between a table, a program and a symbolic state.
 use Rattle.std.specs.Prelude.{◌≡◌, ℕ, ◌/◌, ◌<◌, ◌≤◌, List, [], ◌∷◌, length, map, Option, Some, IfSome, if◌then◌else◌}
+use Rattle.std.specs.Prelude.{Bool, true, IsFalse, IsSomeAnd, slice_get}
 use Rattle.std.specs.List.{All, AllByRecursion}
+use Rattle.word_operations.specs.declared.kind.Kind.{Kind}
+use Rattle.word_operations.specs.Operations.{operand_count, takes_bit}
 use Rattle.word_program.specs.declared.parameter.Param.{Param}
 use Rattle.word_program.specs.Program.{Source}
-use Rattle.word_program.specs.Values.{is_scalar}
+use Rattle.word_program.specs.Values.{is_output, is_scalar, word_bounds}
 use Rattle.terms.specs.declared.nodes.Node.{Node}
+use Rattle.terms.specs.declared.nodes.Form.{Form}
+use Rattle.terms.specs.declared.nodes.Form.TheVariants as forms
 use Rattle.terms.specs.Tables.{node_at}
 use Rattle.symbolic_values.specs.Symbols.{Array, Symbols}
 
@@ -12,6 +17,26 @@ use Rattle.symbolic_values.specs.Symbols.{Array, Symbols}
 pub record IsBit (table : List Node) (number : ℕ) : Type 0 where
   pub inside : number < length table
   pub high : (node_at table number).high ≤ 1
+
+-- the number of a node, which is at most 1 where it is told to be a bit
+pub record IsNodeOf (table : List Node) (told : Bool) (number : ℕ) : Type 0 where
+  pub inside : number < length table
+  pub bit : told ≡ true → (node_at table number).high ≤ 1
+
+-- as many nodes as are told of
+abbrev pub AreNodesOf : List Node → List Bool → List ℕ → Type 0
+AreNodesOf table [] [] = Unit {0}
+AreNodesOf table [] (number ∷ numbers) = ⊥
+AreNodesOf table (told ∷ more) [] = ⊥
+AreNodesOf table (told ∷ more) (number ∷ numbers) = IsNodeOf table told number × AreNodesOf table more numbers
+
+-- Nodes of the operands of an operation of this kind, as many as it has; the first one is at most 1 where the kind
+-- takes a carry, a borrow or a condition.
+pub record AreOperandNodes (table : List Node) (kind : Kind) (a b c : ℕ) : Type 0 where
+  pub first : a < length table
+  pub second : 2 ≤ operand_count kind → b < length table
+  pub third : 3 ≤ operand_count kind → c < length table
+  pub taken : takes_bit kind ≡ true → (node_at table a).high ≤ 1
 
 -- the words that are known are nodes of the table
 abbrev pub AreKnown : List Node → List (Option ℕ) → Type 0
@@ -40,3 +65,10 @@ pub record HasShape (program : Source) (frame : ℕ) (y : Symbols) : Type 0 wher
   pub arrays : HaveShapes program.params y.arrays
   pub frame_words : length y.frame ≡ frame / 8
   pub overlap : y.overlap ≡ program.overlap
+
+-- A form that is made for a program: an input word is that of an input parameter, and has its bounds. Every other form
+-- has no condition.
+abbrev pub IsProgramForm : List Param → Form → Type 0
+IsProgramForm params (forms.In param word low high) = (word_bounds params param word ≡ record { low = low; high = high })
+    × IsSomeAnd (slice_get params param) (λ p. IsFalse (is_output p.role) × (word < length p.bounds))
+IsProgramForm params _ = Unit {0}
