@@ -8,6 +8,7 @@ use Rattle.x86_instr.specs.declared.line.Line.{Line}
 use Rattle.x86_instr.specs.declared.operand.Reg.{Reg}
 use Rattle.x86_instr.specs.declared.operand.Reg.TheVariants.{Rbx, Rbp, Rsp, R12, R13, R14, R15}
 use Rattle.x86_instr.specs.Registers.{number_of}
+use Rattle.x86_meaning.specs.Correct.{IsCorrect}
 use Rattle.symbolic_values.specs.Symbols.{Symbols, node_in}
 use Rattle.symbolic_values.specs.Sources.{source_outputs}
 use Rattle.symbolic_values.specs.Written.{words_written}
@@ -77,3 +78,8 @@ Fails program lines whys.Stack = EndsIn program lines
 abbrev pub IsVerdict : Source → List Line → Verdict → Type 0
 IsVerdict program lines (Proved proof) = IsProved program lines
 IsVerdict program lines (Not why) = Fails program lines why
+
+-- a listing of which the verdict says that it is proved is correct for the program
+abbrev pub SaysCorrect : Source → List Line → Verdict → Type 0
+SaysCorrect program lines (Proved proof) = IsCorrect program lines
+SaysCorrect program lines (Not why) = Unit {0}
