@@ -101,12 +101,7 @@ fn refuses_faulty_files(rt: HostRuntime) -> Result<(), Fail> {
             "check p.json missing.s => 3 cannot read missing.s",
             2,
         ),
-        (
-            COPY1,
-            COPY1_TEXT,
-            "check p.s p.s => 5 not JSON",
-            1,
-        ),
+        (COPY1, COPY1_TEXT, "check p.s p.s => 5 not JSON", 1),
     ] {
         let files = Files {
             program: program.as_bytes(),
