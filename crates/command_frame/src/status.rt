@@ -137,7 +137,8 @@ fn push_not_proved(line: &mut String, why: Why) -> Result<(), AllocError>
     ensures { OnOk result (string_bytes line.new ≡ string_bytes line.old ++ (codes "not proved: " ++ why_text why)) }
 {
     line.push_str("not proved: ")?;
-    push_why(line, why)
+    push_why(line, why)?;
+    Ok(())
 }
 
 #[tactic(auto, unfolding(crate::specs::Status::why_text))]
