@@ -1,6 +1,7 @@
 //! Laws of the definitions: functions that do nothing, whose contracts are the laws.
 ghost use Rattle.command_line.specs.Laws.{Searches, SearchesAfterDashes, Evaluates, EvaluatesInputs};
-ghost use Rattle.command_line.specs.Laws.{EvaluatesInputsFirst, RefusesTwoLists, Emulates, EmulatesInputs, Checks, Shows};
+ghost use Rattle.command_line.specs.Laws.{EvaluatesInputsFirst, RefusesTwoLists, Emulates, EmulatesInputs};
+ghost use Rattle.command_line.specs.Laws.{Checks, Shows};
 
 /// The lines that a user writes are the commands that they look like, where no word in the place of a name or a
 /// list begins with `-`, other than `-` alone. After `--` each word is a name. A list may stand before the names,
