@@ -1,10 +1,13 @@
 -- What a status prints on standard error, and the exit status that it ends with.
-use Rattle.std.specs.Prelude.{ℕ, List, [], ◌∷◌, ◌++◌, codes, decimal, nat_lt, if◌then◌else◌}
+use Rattle.std.specs.Prelude.{ℕ, List, [], ◌∷◌, ◌++◌, codes, decimal, nat_lt, if◌then◌else◌, Option, Some, None}
 use Rattle.word_text.specs.declared.fault.Section.{Section}
 use Rattle.word_text.specs.declared.fault.Section.TheVariants as sections
 use Rattle.word_text.specs.declared.fault.Place.{Place}
 use Rattle.x86_instr.specs.declared.listing.ListingFault.{ListingFault}
 use Rattle.x86_instr.specs.declared.listing.ListingFault.TheVariants as causes
+use Rattle.asm_operands.specs.Names.{reg_text}
+use Rattle.equiv_validator.specs.declared.verdict.Why.{Why}
+use Rattle.equiv_validator.specs.declared.verdict.Why.TheVariants as whys
 use Rattle.command_frame.specs.declared.status.Status.{Status}
 use Rattle.command_frame.specs.declared.status.Status.TheVariants as statuses
 
@@ -18,6 +21,7 @@ exit_of (statuses.Program code place) = 6
 exit_of (statuses.WriteFault name) = 7
 exit_of (statuses.Text line) = 8
 exit_of (statuses.Listing fault) = 9
+exit_of (statuses.Not why) = 10
 exit_of (statuses.Stuck line) = 11
 exit_of (statuses.Inputs given wanted) = 12
 exit_of (statuses.OutOfBounds word) = 13
@@ -47,6 +51,23 @@ too_long_text name limit = name ++ (codes " has more than " ++ (decimal limit ++
 unfoldable pub program_fault_text : ℕ → Place → List ℕ
 program_fault_text code place = codes "program fault P" ++ (code_text code ++ (codes " at " ++ place_text place))
 
+-- the number of a node, where one is known
+abbrev pub node_text : Option ℕ → List ℕ
+node_text None = codes "none"
+node_text (Some node) = decimal node
+
+-- the program's node of an output word, and the listing's
+unfoldable pub difference_text : ℕ → ℕ → Option ℕ → List ℕ
+difference_text word source listing = codes "output " ++ (decimal word ++ (codes " node " ++ (decimal source
+    ++ (codes " against " ++ node_text listing))))
+
+-- why a listing is not proved
+unfoldable pub why_text : Why → List ℕ
+why_text (whys.Stuck line) = codes "stuck at " ++ decimal line
+why_text (whys.Output word source listing) = difference_text word source listing
+why_text (whys.Saved reg) = codes "register " ++ reg_text reg
+why_text whys.Stack = codes "stack"
+
 unfoldable pub inputs_text : ℕ → ℕ → List ℕ
 inputs_text given wanted = decimal given ++ (codes " inputs, " ++ (decimal wanted ++ codes " wanted"))
 
@@ -64,6 +85,7 @@ line_of (statuses.Program code place) = program_fault_text code place
 line_of (statuses.WriteFault name) = codes "cannot write " ++ name
 line_of (statuses.Text line) = codes "assembly line " ++ decimal line
 line_of (statuses.Listing fault) = listing_text fault
+line_of (statuses.Not why) = codes "not proved: " ++ why_text why
 line_of (statuses.Stuck line) = codes "stuck at " ++ decimal line
 line_of (statuses.Inputs given wanted) = inputs_text given wanted
 line_of (statuses.OutOfBounds word) = out_of_bounds_text word

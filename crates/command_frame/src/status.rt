@@ -1,12 +1,16 @@
-ghost use Rattle.std.specs.Prelude.{◌≡◌, ◌++◌, IfOk, OnOk, decimal, string_bytes};
+ghost use Rattle.std.specs.Prelude.{◌≡◌, ◌++◌, IfOk, OnOk, codes, decimal, string_bytes};
 ghost use Rattle.command_frame.specs.Status.{exit_of, listing_text, section_text, code_text, place_text, too_long_text};
 ghost use Rattle.command_frame.specs.Status.{program_fault_text, inputs_text, out_of_bounds_text, line_of};
+ghost use Rattle.command_frame.specs.Status.{node_text, difference_text, why_text};
+ghost use Rattle.asm_operands.specs.Names.{reg_text};
 
+use asm_operands::register_name;
 use base::Text;
+use equiv_validator::Why;
 use itoa::Buffer;
 use std::alloc::{AllocError, Global};
 use word_text::{Place, Section};
-use x86_instr::ListingFault;
+use x86_instr::{ListingFault, Reg};
 
 /// How a command ended.
 #[derive(Drop)]
@@ -29,6 +33,8 @@ pub enum Status {
     Text(u32),
     /// The assembly text has the lines of no listing.
     Listing(ListingFault),
+    /// The listing is not proved for the program, and this is the first failure.
+    Not(Why),
     /// The listing's run is stuck at this line, counted from 1.
     Stuck(u32),
     /// There are this many inputs, and the program wants that many.
@@ -53,6 +59,7 @@ pub fn exit_of(status: &Status) -> u8
         Status::WriteFault(_) => 7,
         Status::Text(_) => 8,
         Status::Listing(_) => 9,
+        Status::Not(_) => 10,
         Status::Stuck(_) => 11,
         Status::Inputs { .. } => 12,
         Status::OutOfBounds(_) => 13,
@@ -84,6 +91,7 @@ fn push_line(line: &mut String, status: &Status) -> Result<(), AllocError>
         Status::WriteFault(name) => push_named(line, "cannot write ", name),
         Status::Text(number) => push_numbered(line, "assembly line ", *number),
         Status::Listing(fault) => line.push_str(listing_text(*fault)),
+        Status::Not(why) => push_not_proved(line, *why),
         Status::Stuck(number) => push_numbered(line, "stuck at ", *number),
         Status::Inputs { given, wanted } => push_inputs(line, *given, *wanted),
         Status::OutOfBounds(word) => push_out_of_bounds(line, *word),
@@ -123,6 +131,61 @@ fn push_too_long(line: &mut String, name: &str, limit: u64) -> Result<(), AllocE
     line.push_str(Buffer::new().format(limit))?;
     line.push_str(" bytes")?;
     Ok(())
+}
+
+fn push_not_proved(line: &mut String, why: Why) -> Result<(), AllocError>
+    ensures { OnOk result (string_bytes line.new ≡ string_bytes line.old ++ (codes "not proved: " ++ why_text why)) }
+{
+    line.push_str("not proved: ")?;
+    push_why(line, why)?;
+    Ok(())
+}
+
+#[tactic(auto, unfolding(crate::specs::Status::why_text))]
+fn push_why(line: &mut String, why: Why) -> Result<(), AllocError>
+    ensures { OnOk result (string_bytes line.new ≡ string_bytes line.old ++ why_text why) }
+{
+    match why {
+        Why::Stuck { line: number } => push_numbered(line, "stuck at ", number),
+        Why::Output {
+            word,
+            source,
+            listing,
+        } => push_difference(line, word, source, listing),
+        Why::Saved { reg } => push_register(line, reg),
+        Why::Stack => line.push_str("stack"),
+    }
+}
+
+#[tactic(auto, unfolding(crate::specs::Status::difference_text))]
+fn push_difference(
+    line: &mut String,
+    word: u32,
+    source: u32,
+    listing: Option<u32>,
+) -> Result<(), AllocError>
+    ensures { OnOk result (string_bytes line.new ≡ string_bytes line.old ++ difference_text word source listing) }
+{
+    push_numbered(line, "output ", word)?;
+    push_numbered(line, " node ", source)?;
+    line.push_str(" against ")?;
+    push_node(line, listing)
+}
+
+fn push_node(line: &mut String, node: Option<u32>) -> Result<(), AllocError>
+    ensures { OnOk result (string_bytes line.new ≡ string_bytes line.old ++ node_text node) }
+{
+    match node {
+        Some(node) => line.push_str(Buffer::new().format(node)),
+        None => line.push_str("none"),
+    }
+}
+
+fn push_register(line: &mut String, reg: Reg) -> Result<(), AllocError>
+    ensures { OnOk result (string_bytes line.new ≡ string_bytes line.old ++ (codes "register " ++ reg_text reg)) }
+{
+    line.push_str("register ")?;
+    line.push_str(register_name(reg))
 }
 
 #[tactic(auto, unfolding(crate::specs::Status::inputs_text))]

@@ -8,7 +8,7 @@ use Rattle.clap.proofs.OnLiterals.{clap_on_literals}
 use Rattle.command_line.specs.Inputs.{inputs_of}
 use Rattle.command_line.specs.Lines.{are_file_names, command_of, rows}
 use Rattle.command_line.specs.Laws.{is_plain}
-use Rattle.command_line.specs.declared.command.Command.TheVariants.{Search, Eval, Emulate, Show}
+use Rattle.command_line.specs.declared.command.Command.TheVariants.{Search, Eval, Emulate, Check, Show}
 
 -- `clap` takes the word for no option and not for `--`
 pub record IsPlainWord (word : List ℕ) : Type 0 where
@@ -73,6 +73,11 @@ pub emulate_inputs_line : (program asm list : List ℕ) → IsPlainWord program 
 unfolding clap_on_literals rows
 emulate_inputs_line program asm list p a l =
     rw (p.dashes, p.long, p.short, a.dashes, a.long, a.short, l.dashes, l.long, l.short) refl
+
+pub check_line : (program asm : List ℕ) → IsPlainWord program → IsPlainWord asm
+    → command_of (codes "check" ∷ program ∷ asm ∷ []) ≡ Some (Check program asm)
+unfolding clap_on_literals rows
+check_line program asm p a = rw (p.dashes, p.long, p.short, a.dashes, a.long, a.short) refl
 
 pub show_line : (asm : List ℕ) → IsPlainWord asm → command_of (codes "show" ∷ asm ∷ []) ≡ Some (Show asm)
 unfolding clap_on_literals rows

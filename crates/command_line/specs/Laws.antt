@@ -3,7 +3,7 @@ use Rattle.std.specs.Prelude.{◌≡◌, ℕ, Bool, true, not, ◌==◌, List, [
 use Rattle.base.specs.Options.{guard}
 use Rattle.command_line.specs.Inputs.{inputs_of}
 use Rattle.command_line.specs.Lines.{are_file_names, command_of}
-use Rattle.command_line.specs.declared.command.Command.TheVariants.{Search, Eval, Emulate, Show}
+use Rattle.command_line.specs.declared.command.Command.TheVariants.{Search, Eval, Emulate, Check, Show}
 
 -- the word is taken for no option: it does not begin with `-`, or is `-` alone
 abbrev pub is_plain : List ℕ → Bool
@@ -53,6 +53,11 @@ abbrev pub EmulatesInputs : Type 0
 EmulatesInputs = (program asm list : List ℕ) → is_plain program ≡ true → is_plain asm ≡ true → is_plain list ≡ true
     → command_of (codes "emulate" ∷ program ∷ asm ∷ codes "--in" ∷ list ∷ [])
     ≡ option_map (Emulate program asm) (inputs_of list)
+
+-- `check PROGRAM ASM`
+abbrev pub Checks : Type 0
+Checks = (program asm : List ℕ) → is_plain program ≡ true → is_plain asm ≡ true
+    → command_of (codes "check" ∷ program ∷ asm ∷ []) ≡ Some (Check program asm)
 
 -- `show ASM`
 abbrev pub Shows : Type 0

@@ -12,7 +12,7 @@ use Rattle.command_line.specs.Inputs.{inputs_or_none}
 use Rattle.command_line.specs.declared.table.CommandName.{CommandName}
 use Rattle.command_line.specs.declared.table.CommandName.TheVariants as names
 use Rattle.command_line.specs.declared.command.Command.{Command}
-use Rattle.command_line.specs.declared.command.Command.TheVariants.{Search, Eval, Emulate, Show}
+use Rattle.command_line.specs.declared.command.Command.TheVariants.{Search, Eval, Emulate, Check, Show}
 
 -- `clap` has nothing against the words
 abbrev pub is_accepted : Kinds → Bool
@@ -42,6 +42,10 @@ made_of names.Emulate found = do
   asm ← first_of (codes "ASM") found
   inputs ← inputs_or_none (first_of (codes "in") found)
   Some (Emulate program asm inputs)
+made_of names.Check found = do
+  program ← first_of (codes "PROGRAM") found
+  asm ← first_of (codes "ASM") found
+  Some (Check program asm)
 made_of names.Show found = do
   asm ← first_of (codes "ASM") found
   Some (Show asm)

@@ -4,7 +4,7 @@ use Rattle.std.specs.Prelude.{ℕ, true, List, [], ◌∷◌, map, fold, codes, 
 use Rattle.std.specs.Str.{bytes_eq}
 use Rattle.clap.specs.Simple.{App, new_app, new_rule, with_rule}
 use Rattle.command_line.specs.declared.table.CommandName.{CommandName}
-use Rattle.command_line.specs.declared.table.CommandName.TheVariants.{Search, Eval, Emulate, Show}
+use Rattle.command_line.specs.declared.table.CommandName.TheVariants.{Search, Eval, Emulate, Check, Show}
 use Rattle.command_line.specs.declared.table.Syntax as code
 
 -- the first word of a command, the names of the words that have to stand after it, and the names of its options, each
@@ -22,10 +22,11 @@ abbrev pub syntax_of : CommandName → Syntax
 syntax_of Search = row (codes "search") (codes "PROGRAM" ∷ codes "ASM" ∷ []) []
 syntax_of Eval = row (codes "eval") (codes "PROGRAM" ∷ []) (codes "in" ∷ [])
 syntax_of Emulate = row (codes "emulate") (codes "PROGRAM" ∷ codes "ASM" ∷ []) (codes "in" ∷ [])
+syntax_of Check = row (codes "check") (codes "PROGRAM" ∷ codes "ASM" ∷ []) []
 syntax_of Show = row (codes "show") (codes "ASM" ∷ []) []
 
 abbrev pub commands : List CommandName
-commands = Search ∷ Eval ∷ Emulate ∷ Show ∷ []
+commands = Search ∷ Eval ∷ Emulate ∷ Check ∷ Show ∷ []
 
 -- the command whose first word this is
 abbrev pub command_named : List ℕ → Option CommandName

@@ -34,6 +34,11 @@ pub enum Command {
         asm: Text,
         inputs: Words,
     },
+    /// `check PROGRAM ASM`: the program, and the assembly that is checked against it.
+    Check {
+        program: Text,
+        asm: Text,
+    },
     /// `show ASM`.
     Show {
         asm: Text,
@@ -73,6 +78,7 @@ fn made_of(
         CommandName::Search => search_of(alloc, matches),
         CommandName::Eval => eval_of(alloc, matches),
         CommandName::Emulate => emulate_of(alloc, matches),
+        CommandName::Check => check_of(alloc, matches),
         CommandName::Show => show_of(alloc, matches),
     }
 }
@@ -126,6 +132,20 @@ fn emulate_of(alloc: Global, matches: &ArgMatches<'_>) -> Result<Option<Command>
         asm,
         inputs,
     }))
+}
+
+fn check_of(alloc: Global, matches: &ArgMatches<'_>) -> Result<Option<Command>, AllocError>
+    ensures { IfOk result (λ made. made ≡ spec.made_of names.Check (rows_of (found_of matches.now))) }
+{
+    let Some(program) = value_of(matches, "PROGRAM") else {
+        return Ok(None);
+    };
+    let Some(asm) = value_of(matches, "ASM") else {
+        return Ok(None);
+    };
+    let program = Text::from_str(alloc, program)?;
+    let asm = Text::from_str(alloc, asm)?;
+    Ok(Some(Command::Check { program, asm }))
 }
 
 fn show_of(alloc: Global, matches: &ArgMatches<'_>) -> Result<Option<Command>, AllocError>

@@ -8,6 +8,7 @@ pub enum CommandName {
     Search,
     Eval,
     Emulate,
+    Check,
     Show,
 }
 
@@ -30,6 +31,7 @@ pub fn syntax_of(name: CommandName) -> Syntax
         CommandName::Search => row("search", &["PROGRAM", "ASM"], &[]),
         CommandName::Eval => row("eval", &["PROGRAM"], &["in"]),
         CommandName::Emulate => row("emulate", &["PROGRAM", "ASM"], &["in"]),
+        CommandName::Check => row("check", &["PROGRAM", "ASM"], &[]),
         CommandName::Show => row("show", &["ASM"], &[]),
     }
 }
@@ -56,6 +58,7 @@ pub fn command_named(word: &str) -> Option<CommandName>
         "search" => Some(CommandName::Search),
         "eval" => Some(CommandName::Eval),
         "emulate" => Some(CommandName::Emulate),
+        "check" => Some(CommandName::Check),
         "show" => Some(CommandName::Show),
         _ => None,
     }

@@ -79,6 +79,13 @@ emulate p.json - => emulate p.json -
 emulate p.json => none
 emulate p.json p.s q.s => none
 emulate p.json p.s --in x => none
+check p.json p.s => check p.json p.s
+check p.s p.s => check p.s p.s
+check - - => check - -
+check -- -p -s => check -p -s
+check p.json => none
+check p.json p.s q.s => none
+check p.json p.s --in 1 => none
 show p.s => show p.s
 show - => show -
 show -- --help => show --help
@@ -109,6 +116,11 @@ fn text_of(alloc: Global, command: &Command) -> Result<String, AllocError> {
             let text = format!(in alloc; "emulate {} {}", program.as_str(), asm.as_str())?;
             with_words(text, inputs)
         }
+        Command::Check { program, asm } => format!(in alloc;
+            "check {} {}",
+            program.as_str(),
+            asm.as_str()
+        ),
         Command::Show { asm } => format!(in alloc; "show {}", asm.as_str()),
     }
 }

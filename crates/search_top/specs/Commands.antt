@@ -14,6 +14,7 @@ use Rattle.command_line.specs.Lines.{command_of}
 use Rattle.search_top.specs.Search.{Files, SearchMeans, SearchRefuses}
 use Rattle.search_top.specs.Eval.{EvalMeans, EvalRefuses}
 use Rattle.search_top.specs.Emulate.{EmulateMeans, EmulateRefuses}
+use Rattle.search_top.specs.Check.{CheckMeans, CheckRefuses}
 use Rattle.search_top.specs.Show.{ShowMeans, ShowRefuses}
 
 -- a file that is read as a program, and one that is read as a listing
@@ -31,6 +32,10 @@ calls_of (commands.Emulate program asm inputs) = record {
   loads = program_in program ∷ listing_in asm ∷ [];
   stores = [];
 }
+calls_of (commands.Check program asm) = record {
+  loads = program_in program ∷ listing_in asm ∷ [];
+  stores = [];
+}
 calls_of (commands.Show asm) = record { loads = listing_in asm ∷ []; stores = [] }
 
 -- what it makes of what was read
@@ -38,6 +43,7 @@ abbrev pub Means : Command → List Content → Output → Type 0
 Means (commands.Search program asm) = SearchMeans
 Means (commands.Eval program inputs) = EvalMeans inputs
 Means (commands.Emulate program asm inputs) = EmulateMeans inputs
+Means (commands.Check program asm) = CheckMeans
 Means (commands.Show asm) = ShowMeans
 
 -- why it makes nothing of it
@@ -45,6 +51,7 @@ abbrev pub Refuses : Command → List Content → Status → Type 0
 Refuses (commands.Search program asm) = SearchRefuses
 Refuses (commands.Eval program inputs) = EvalRefuses inputs
 Refuses (commands.Emulate program asm inputs) = EmulateRefuses inputs
+Refuses (commands.Check program asm) = CheckRefuses
 Refuses (commands.Show asm) = ShowRefuses
 
 -- the command ends so

@@ -6,5 +6,6 @@ pub mod Cost
 pub mod Search
 pub mod Eval
 pub mod Emulate
+pub mod Check
 pub mod Show
 pub mod Commands

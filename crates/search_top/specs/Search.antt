@@ -73,6 +73,7 @@ OnSuccess status P = Unit {0}
 abbrev pub IsOfSearch : Status → Type 0
 IsOfSearch (statuses.Text line) = ⊥
 IsOfSearch (statuses.Listing fault) = ⊥
+IsOfSearch (statuses.Not why) = ⊥
 IsOfSearch (statuses.Stuck line) = ⊥
 IsOfSearch (statuses.Inputs given wanted) = ⊥
 IsOfSearch (statuses.OutOfBounds word) = ⊥

@@ -2,6 +2,7 @@ ghost use Rattle.std.specs.Prelude.{◌≡◌, ◌⊎◌, None, IfSome, map, str
 ghost use Rattle.command_frame.specs.Change.{IsIdle, change_of};
 ghost use Rattle.search_top.specs.Commands.{EndsAs, other_command};
 
+use crate::check_command::check_file;
 use crate::emulate_command::emulate_file;
 use crate::eval_command::eval_file;
 use crate::show_command::show_file;
@@ -16,13 +17,15 @@ use std::alloc::Global;
 ///   line for each output word.
 /// - `emulate PROGRAM ASM [--in LIST]` also reads the file ASM, runs its listing from the stated start state of
 ///   the program on the words of LIST, and says a line for each word that it leaves in the output arrays.
+/// - `check PROGRAM ASM` reads the files PROGRAM and ASM, and says `proved` where the listing is proved for the
+///   program. It is then correct for it.
 /// - `show ASM` reads the file ASM, and says the canonical text of its listing.
 ///
 /// The refusals come in the order in which the files are read: [`Status::Usage`]; for PROGRAM
 /// [`Status::ReadFault`], [`Status::TooLong`], [`Status::NotJson`] and [`Status::Program`]; for ASM
 /// [`Status::ReadFault`], [`Status::TooLong`], [`Status::Text`] and [`Status::Listing`]; [`Status::Inputs`] and
-/// [`Status::OutOfBounds`]; [`Status::Stuck`]; and last [`Status::WriteFault`] of standard output.
-/// [`Status::OutOfMemory`] comes only before that.
+/// [`Status::OutOfBounds`]; [`Status::Stuck`], and [`Status::Not`] of `check`; and last [`Status::WriteFault`] of
+/// standard output. [`Status::OutOfMemory`] comes only before that.
 pub fn command<S: Shelf>(alloc: Global, words: &[String], shelf: &mut S) -> Status
     // `Usage` comes exactly where the words are none of these commands, or there is no memory to read them apart.
     // Nothing is then done.
@@ -49,6 +52,7 @@ pub fn command<S: Shelf>(alloc: Global, words: &[String], shelf: &mut S) -> Stat
                 },
             ),
         ) => emulate_file(alloc, program, asm, inputs.items(), shelf),
+        Ok(Some(Command::Check { program, asm })) => check_file(alloc, program, asm, shelf),
         Ok(Some(Command::Show { asm })) => show_file(alloc, asm, shelf),
         Ok(Some(Command::Search { .. })) | Ok(None) => Status::Usage,
         Err(_) => Status::OutOfMemory,

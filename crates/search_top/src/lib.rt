@@ -8,6 +8,7 @@
 //! code, a file of definitions, a row in each table, and an arm in [`command`].
 #![tactic(auto)]
 
+mod check_command;
 mod commands;
 mod copy;
 mod cost;

@@ -1,15 +1,10 @@
 //! `emulate`: the words that a listing leaves, and what it refuses.
 use crate::calls::{Files, Left, leaves, refuses};
-use crate::programs::{ADD1, CHAIN2, CHAIN2_TEXT, COPY1, COPY1_TEXT};
+use crate::programs::{ADD1, CHAIN2, CHAIN2_TEXT, COPY1, COPY1_TEXT, function};
 use std::alloc::{AllocError, Global};
 use std::test::Fail;
 
 const LINE: &str = "emulate p.json p.s --in 7";
-
-// The text of a function with these lines.
-fn function(alloc: Global, body: &str) -> Result<String, AllocError> {
-    format!(in alloc; ".intel_syntax noprefix\n.text\n.globl f\nf:\n{body}")
-}
 
 // Whether an emulation says this text.
 fn says(alloc: Global, files: Files<'_>, line: &str, said: &str) -> Result<bool, AllocError> {

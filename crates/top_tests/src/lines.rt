@@ -23,7 +23,6 @@ search p.json p.s --in 1
 search p.json p.s --help
 searching p.json p.s
 Search p.json p.s
-check p.json p.s
 eval
 eval p.json q.json
 eval p.json --in
@@ -39,6 +38,11 @@ emulate p.json
 emulate p.json p.s 7
 emulate p.json p.s --in x
 emulate p.json -p.s --in 7
+checks p.json p.s
+check p.json
+check p.json p.s q.s
+check p.json p.s --in 7
+check p.json -p.s
 show
 show p.s p.s
 show p.s --in 7
@@ -56,6 +60,7 @@ fn refuses_what_is_no_command_with_no_call(rt: HostRuntime) -> Result<(), Fail> 
         "search p.json p.s",
         "eval p.json --in 7",
         "emulate p.json p.s --in 7",
+        "check p.json p.s",
         "show p.s",
     ] {
         assert!(rt; is_idle(rt.alloc(), copy(), line)?, "{line}");
@@ -74,6 +79,7 @@ fn takes_options_anywhere_and_names_behind_two_hyphens(rt: HostRuntime) -> Resul
         ("eval --in 7 -- p.json", 2, word),
         ("emulate p.json --in 7 p.s", 3, word),
         ("emulate --in=7 -- p.json p.s", 3, word),
+        ("check -- p.json p.s", 3, "proved\n"),
         ("show -- p.s", 2, COPY1_TEXT),
         ("search -- p.json p.s", 3, "opening 28\n"),
     ] {
@@ -88,6 +94,7 @@ fn takes_options_anywhere_and_names_behind_two_hyphens(rt: HostRuntime) -> Resul
         ("eval - => 3 cannot read -", 1),
         ("search - p.s => 3 cannot read -", 1),
         ("emulate p.json - => 3 cannot read -", 2),
+        ("check p.json - => 3 cannot read -", 2),
         ("show -- --in => 3 cannot read --in", 1),
     ] {
         assert!(rt; refuses(rt.alloc(), copy(), row, calls)?, "{row}");
@@ -106,6 +113,9 @@ fn ends_at_the_call_that_fails(rt: HostRuntime) -> Result<(), Fail> {
         ("emulate p.json p.s --in 7", 0, "3 cannot read p.json"),
         ("emulate p.json p.s --in 7", 1, "3 cannot read p.s"),
         ("emulate p.json p.s --in 7", 2, "7 cannot write -"),
+        ("check p.json p.s", 0, "3 cannot read p.json"),
+        ("check p.json p.s", 1, "3 cannot read p.s"),
+        ("check p.json p.s", 2, "7 cannot write -"),
         ("show p.s", 0, "3 cannot read p.s"),
         ("show p.s", 1, "7 cannot write -"),
     ] {

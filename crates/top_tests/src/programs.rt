@@ -1,4 +1,5 @@
 //! Programs, and listings for them.
+use std::alloc::{AllocError, Global};
 
 /// A copy of one word.
 pub const COPY1: &str = r#"{"operation":"copy1",
@@ -86,3 +87,8 @@ chain2:
     mov qword ptr [rdi + 24], rcx
     ret
 ";
+
+/// The text of a listing with the name `f` and these lines.
+pub fn function(alloc: Global, body: &str) -> Result<String, AllocError> {
+    format!(in alloc; ".intel_syntax noprefix\n.text\n.globl f\nf:\n{body}")
+}

@@ -1,7 +1,7 @@
 -- Each line, by what `clap` makes of its words.
 use Rattle.command_line.proofs.PlainWords.{plain_word, search_line, dashes_line, eval_line}
 use Rattle.command_line.proofs.PlainWords.{eval_inputs_line, inputs_first_line, inputs_twice_line}
-use Rattle.command_line.proofs.PlainWords.{emulate_line, emulate_inputs_line, show_line}
+use Rattle.command_line.proofs.PlainWords.{emulate_line, emulate_inputs_line, check_line, show_line}
 use Rattle.command_line.proofs.laws.plain_lines_are_commands.Goals as goal
 
 pub returns : goal.returns
@@ -16,5 +16,6 @@ returns c = record {
   emulate = λ program asm p a. emulate_line program asm (plain_word program p) (plain_word asm a);
   emulate_inputs = λ program asm list p a l.
       emulate_inputs_line program asm list (plain_word program p) (plain_word asm a) (plain_word list l);
+  check = λ program asm p a. check_line program asm (plain_word program p) (plain_word asm a);
   show = λ asm a. show_line asm (plain_word asm a);
 }
