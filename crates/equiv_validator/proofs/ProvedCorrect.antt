@@ -22,7 +22,6 @@ use Rattle.x86_instr.specs.Registers.{number_of}
 use Rattle.x86_meaning.specs.declared.state.State.{State}
 use Rattle.x86_meaning.specs.Correct.{IsCorrect, Returns, preserved}
 use Rattle.x86_meaning.specs.Machine.{IsState, reg}
-use Rattle.x86_meaning.proofs.RegisterLemmas.{by_sixteen}
 use Rattle.x86_meaning.specs.Start.{Array, IsStart, address_of, output_words}
 use Rattle.terms.specs.declared.nodes.Node.{Node}
 use Rattle.terms.specs.declared.nodes.Form.{Form}
@@ -37,25 +36,18 @@ use Rattle.symbolic_values.specs.Fitting.{FitsTable, HasShape, IsProgramForm}
 use Rattle.symbolic_values.specs.Sources.{source_made, source_outputs, symbols_at_start}
 use Rattle.symbolic_values.specs.Steps.{step_of}
 use Rattle.symbolic_values.specs.Written.{words_written}
-use Rattle.word_program.specs.declared.parameter.Bounds.{Bounds}
-use Rattle.word_program.proofs.InputWords.{input_within}
 use Rattle.terms.specs.declared.nodes.Form.TheVariants as forms
-use Rattle.terms.specs.declared.nodes.NodeKind.TheVariants as kinds
-use Rattle.terms.specs.Tables.{no_node}
-use Rattle.term_store.specs.Interning.{Interned}
-use Rattle.std.proofs.lemmas.Option.{get_or_from_slice_get}
 use Rattle.term_store.proofs.Growth.{grown_sound}
 use Rattle.term_store.proofs.Prefixes.{prefix_refl, sound_front, valuation_front}
 use Rattle.term_store.proofs.Values.{valuation}
 use Rattle.symbolic_values.specs.Sources.{IsRunOn}
-use Rattle.symbolic_values.proofs.AtStart.{start_agrees, start_shape}
+use Rattle.symbolic_values.proofs.AtStart.{start_shape}
+use Rattle.symbolic_values.proofs.StartsAgree.{start_admits, start_agrees, start_fits}
 use Rattle.symbolic_values.proofs.StepRows.{IsPlain}
 use Rattle.symbolic_values.proofs.ProgramNodes.{source_grown, source_table}
 use Rattle.symbolic_values.proofs.SourceOutputs.{stored_value}
-use Rattle.symbolic_values.proofs.SourceStarts.{input_there, source_starts, start_node}
 use Rattle.symbolic_values.proofs.LaterTables.{number_below}
-use Rattle.symbolic_values.proofs.StartLemmas.{fits_at_start, input_inside, source_long}
-use Rattle.symbolic_values.proofs.StartValues.{input_value, start_value}
+use Rattle.symbolic_values.proofs.StartValues.{start_value}
 use Rattle.equiv_validator.specs.Checks.{HasOutputs, IsProved, is_restored, lost_register, saved}
 use Rattle.equiv_validator.specs.Runs.{run_from, run_of}
 use Rattle.equiv_validator.proofs.Induction.{run_grown, run_prefix, runs}
@@ -136,36 +128,9 @@ module _ (program : Source) (lines : List Line) (inputs : List ℕ) (first : Sta
 
 -- ---- from every start
 
--- each number names a register's word, or none
-register_word : (s : State) → IsState s → (number : ℕ) → slice_index s.regs number < 2 ^ 64
-register_word s state = by_sixteen
-    (λ regs. ((r : Reg) → slice_index regs (number_of r) < 2 ^ 64) → (number : ℕ) → slice_index regs number < 2 ^ 64)
-    s.regs state.sixteen
-    (λ r0 r1 r2 r3 r4 r5 r6 r7 r8 r9 r10 r11 r12 r13 r14 r15 words number. each
-    (r0 ∷ r1 ∷ r2 ∷ r3 ∷ r4 ∷ r5 ∷ r6 ∷ r7 ∷ r8 ∷ r9 ∷ r10 ∷ r11 ∷ r12 ∷ r13 ∷ r14 ∷ r15 ∷ [])
-    (words Rax, (words Rcx, (words Rdx, (words Rbx, (words Rsp, (words Rbp, (words Rsi, (words Rdi, (words R8, (words R9,
-    (words R10, (words R11, (words R12, (words R13, (words R14, (words R15, tt)))))))))))))))) number)
-    state.registers where
-  each : (regs : List ℕ) → AllByRecursion (λ n. n < 2 ^ 64) regs → (number : ℕ) → slice_index regs number < 2 ^ 64
-  each [] all number = omega arith
-  each (r ∷ rs) all zero = all.0
-  each (r ∷ rs) all (suc number) = each rs all.1 number
-
-
 module _ (program : Source) (accepted : IsAccepted program) where
   abbrev T0 : List Node
   T0 = (source_made program).table
-
-  -- the forms of a program and of steps have words, where the inputs lie within their bounds
-  admits : (lines : List Line) (inputs : List ℕ) (first : State) → IsStart program lines inputs first → (f : Form)
-      → IsProgramForm program.params f → Admits (start_of program.params inputs first) f
-  admits lines inputs first begins (forms.Start number) has = register_word first begins.state number
-  admits lines inputs first begins (forms.In param word low high) has =
-      let w = input_within program.params inputs begins.inputs_within accepted.params param word has.1 in
-      let e = has.0 in
-      (subst (λ (b : Bounds). b.low ≤ input_word program.params inputs param word) e w.low,
-      subst (λ (b : Bounds). input_word program.params inputs param word ≤ b.high) e w.high)
-  admits lines inputs first begins f has = tt
 
   plain_forms : (f : Form) → IsPlain f → IsProgramForm program.params f
   plain_forms (forms.Start number) plain = absurd plain
@@ -183,22 +148,6 @@ module _ (program : Source) (accepted : IsAccepted program) where
     sound = sound;
   }
 
-  agrees_at_start : (lines : List Line) (inputs : List ℕ) (first : State) (val : ℕ → ℕ)
-      → IsStart program lines inputs first
-      → IsValuation (start_of program.params inputs first) (source_made program).table val
-      → IsSound (source_made program).table val
-      → Agrees program (frame_of lines) first val
-      (symbols_at_start (source_made program).table program (frame_of lines)) first
-  agrees_at_start lines inputs first val begins valued sound =
-      start_agrees program accepted (source_made program).table (source_long program accepted)
-      (λ param word h. input_inside program T0 param word accepted (prefix_refl T0) h) lines inputs first begins val valued
-      (λ k h. ap (λ (n : Node). n.kind) (get_or_from_slice_get T0 k (start_node k) no_node (source_starts program accepted k h)))
-      (λ param word h.
-      let found = (input_there program accepted param word h).found T0 (prefix_refl T0) in
-      ap (λ (i : Interned). val i.number) found
-      ∙ input_value program inputs (start_of program.params inputs first) val accepted
-      (run_on lines inputs first val begins valued sound) param word h)
-
   pub proved_is_correct : (lines : List Line) → FitsLines lines → IsProved program lines → IsCorrect program lines
   unfolding run_of
   proved_is_correct lines fit proved = record {
@@ -208,13 +157,13 @@ module _ (program : Source) (accepted : IsAccepted program) where
         let start = start_of program.params inputs first in
         let val : ℕ → ℕ = node_value (start_of program.params inputs first)
         (run_from 1 lines T0 (symbols_at_start T0 program (frame_of lines))).table in
-        let fits = fits_at_start program T0 (frame_of lines) y accepted (prefix_refl T0) refl in
+        let fits = start_fits program accepted T0 (prefix_refl T0) (frame_of lines) in
         let table = source_table program accepted in
         let grown = run_grown (IsProgramForm program.params) plain_forms lines 1 T0
         (symbols_at_start T0 program (frame_of lines)) table fits (source_grown program accepted) in
         let valued = valuation start T grown.0 in
         let sound = grown_sound (IsProgramForm program.params) start val T grown.0 grown.1
-        (admits lines inputs first begins) valued in
+        (start_admits program accepted lines inputs first begins) valued in
         let front = run_prefix lines 1 T0 (symbols_at_start T0 program (frame_of lines)) in
         let valued0 = valuation_front front valued in
         let sound0 = sound_front front sound in
@@ -226,5 +175,5 @@ module _ (program : Source) (accepted : IsAccepted program) where
                 (run_on lines inputs first val begins valued0 sound0) param word (output_there program.params param word h))
             proved.outputs proved.saved_registers proved.stack u a)
         lines 1 T0 y first fit table fits (start_shape T0 program (frame_of lines)) (prefix_refl T)
-        (agrees_at_start lines inputs first val begins valued0 sound0) proved.ends;
+        (start_agrees program accepted T0 (prefix_refl T0) lines inputs first val begins valued0 sound0) proved.ends;
   }

@@ -34,7 +34,7 @@ input_again program u param word accepted begins input =
     let there = input_there program accepted param word input in
     ap (λ (i : Interned). i.table) (there.found u begins)
 
-pub input_inside : (program : Source) (u : List Node) (param word : ℕ) → IsAccepted program
+input_inside : (program : Source) (u : List Node) (param word : ℕ) → IsAccepted program
     → Prefix (source_made program).table u → IsInput program.params param word
     → input_node u program.params param word < length u
 input_inside program u param word accepted begins input =
@@ -45,7 +45,7 @@ input_inside program u param word accepted begins input =
 
 -- ---- the whole state
 
-pub source_long : (program : Source) → IsAccepted program → 16 ≤ length (source_made program).table
+source_long : (program : Source) → IsAccepted program → 16 ≤ length (source_made program).table
 source_long program accepted =
     slice_get_within (source_made program).table 15 _ (source_starts program accepted 15 (omega arith))
 
