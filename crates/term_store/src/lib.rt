@@ -6,6 +6,8 @@
 
 mod interner;
 mod store;
+mod tail;
 
 pub use interner::Interner;
 pub use store::Store;
+pub use tail::Tail;
