@@ -17,7 +17,8 @@ use Rattle.bounds.specs.Intervals.{intervals_on}
 use Rattle.bounds.specs.Soundness.{LieIn}
 use Rattle.intervals.specs.declared.interval.Interval.{Interval}
 use Rattle.intervals.specs.Intervals.{full}
-use Rattle.intervals.proofs.Lies.{Lies, lies_full, window_lies, floors_lies, fitting_lies, either_lies, product_low_lies}
+use Rattle.intervals.proofs.Lies.{Lies, lies_full, window_lies, floors_lies, fitting_lies, either_lies}
+use Rattle.intervals.proofs.Lies.{product_low_lies}
 use Rattle.intervals.proofs.Lies.{product_high_lies, bits_and_lies, bits_or_lies, bits_xor_lies, shifted_right_lies}
 
 bit_le : (p q : Bool) → (p ≡ true → q ≡ true) → (if p then 1 else 0) ≤ (if q then 1 else 0)

@@ -13,7 +13,8 @@ use Rattle.word_program.specs.declared.operation.Operand.TheVariants as operands
 use Rattle.word_program.specs.Program.{Source}
 use Rattle.word_program.specs.Values.{word_bounds}
 use Rattle.intervals.specs.declared.interval.Interval.{Interval}
-use Rattle.intervals.specs.Intervals.{full, window, floors, fitting, product_low, product_high, bits_and, bits_or, bits_xor}
+use Rattle.intervals.specs.Intervals.{full, window, floors, fitting, product_low, product_high, bits_and, bits_or}
+use Rattle.intervals.specs.Intervals.{bits_xor}
 use Rattle.intervals.specs.Intervals.{shifted_right, choice}
 
 -- ---- the table

@@ -4,9 +4,9 @@ ghost use Rattle.word_program.specs.Accepted.{HasShift};
 ghost use Rattle.bounds.specs.Intervals.{intervals_on};
 ghost use Rattle.intervals.specs.Intervals.{window, floors, fitting};
 
+use intervals::{Interval, WORDS};
 use std::alloc::AllocError;
 use word_program::Kind;
-use intervals::{Interval, WORDS};
 
 /// Of `a + b + c`: the sum modulo 2^64.
 fn sum(a: Interval, b: Interval, c: Interval) -> Interval
@@ -114,7 +114,11 @@ pub fn push_results(
     match kind {
         Kind::AddCarry => push_two(list, sum(a, b, c), carry(a, b, c)),
         Kind::SubBorrow => push_two(list, difference(b, c, a), borrow(b, c, a)),
-        Kind::MulX => push_two(list, intervals::product_low(a, b), intervals::product_high(a, b)),
+        Kind::MulX => push_two(
+            list,
+            intervals::product_low(a, b),
+            intervals::product_high(a, b),
+        ),
         Kind::CMov => push_one(list, intervals::choice(b, c)),
         Kind::Add => push_one(list, word_sum(a, b)),
         Kind::Sub => push_one(list, word_difference(a, b)),
@@ -122,7 +126,10 @@ pub fn push_results(
         Kind::And => push_one(list, intervals::bits_and(a, b)),
         Kind::Or => push_one(list, intervals::bits_or(a, b)),
         Kind::Xor => push_one(list, intervals::bits_xor(a, b)),
-        Kind::Not => push_one(list, intervals::between(u64::MAX - a.high, u64::MAX - a.low)),
+        Kind::Not => push_one(
+            list,
+            intervals::between(u64::MAX - a.high, u64::MAX - a.low),
+        ),
         Kind::Copy => push_one(list, a),
         Kind::Shl(count) => push_one(list, shifted(a, count)),
         Kind::Shr(count) => push_one(list, intervals::shifted_right(a, count)),

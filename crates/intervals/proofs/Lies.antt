@@ -85,7 +85,8 @@ digits_of_right {a} {b} {i} {j} f g = digits_below b (max i.high j.high) (omega 
 -- ---- results
 
 pub product_low_lies : (a b : ℕ) (i j : Interval) → Lies a i → Lies b j → Lies (a * b % 2 ^ 64) (product_low i j)
-product_low_lies a b i j f g = fitting_lies _ _ _ (mul-le i.low j.low a b f.low g.low) (mul-le a b i.high j.high f.high g.high)
+product_low_lies a b i j f g = fitting_lies _ _ _ (mul-le i.low j.low a b f.low g.low)
+    (mul-le a b i.high j.high f.high g.high)
 
 pub product_high_lies : (a b : ℕ) (i j : Interval) → Lies a i → Lies b j → Lies (a * b / 2 ^ 64) (product_high i j)
 product_high_lies a b i j f g =

@@ -13,8 +13,10 @@ pub fn ones_are_least()
 
 /// What is computed from two words lies in the interval that is computed from two intervals that hold them.
 pub fn results_lie_in_intervals()
-    ensures product_low { (i j : Interval) (a b : ℕ) → Holds i a → Holds j b → Holds (product_low i j) (a * b % 2 ^ 64) }
-    ensures product_high { (i j : Interval) (a b : ℕ) → Holds i a → Holds j b → Holds (product_high i j) (a * b / 2 ^ 64) }
+    ensures product_low { (i j : Interval) (a b : ℕ) → Holds i a → Holds j b
+        → Holds (product_low i j) (a * b % 2 ^ 64) }
+    ensures product_high { (i j : Interval) (a b : ℕ) → Holds i a → Holds j b
+        → Holds (product_high i j) (a * b / 2 ^ 64) }
     ensures bits_and { (i j : Interval) (a b : ℕ) → Holds i a → Holds j b → Holds (bits_and i j) (bit_and a b) }
     ensures bits_or { (i j : Interval) (a b : ℕ) → Holds i a → Holds j b → Holds (bits_or i j) (bit_or a b) }
     ensures bits_xor { (i j : Interval) (a b : ℕ) → Holds i a → Holds j b → Holds (bits_xor i j) (bit_xor a b) }

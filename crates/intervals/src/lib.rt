@@ -9,7 +9,8 @@ mod laws;
 mod results;
 
 pub use interval::{
-    Interval, WORDS, between, difference, fitting, floors, full, ones, product, shifted, sum, window,
+    Interval, WORDS, between, difference, fitting, floors, full, ones, product, shifted, sum,
+    window,
 };
 pub use laws::{ones_are_least, results_lie_in_intervals};
 pub use results::{bits_and, bits_or, bits_xor, choice, product_high, product_low, shifted_right};

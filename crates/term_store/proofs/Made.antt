@@ -15,7 +15,7 @@ use Rattle.terms.proofs.Bits.{carry_bit, borrow_bit}
 use Rattle.terms.proofs.Highs.{IsHighBuilt, zero_high}
 use Rattle.terms.proofs.NormalForms.{normal_stands, normal_fits}
 use Rattle.term_store.specs.Interning.{Interned, place_of, interned, made}
-use Rattle.term_store.proofs.Prefixes.{prefix_refl, prefix_push, prefix_length, at_end, at_front, valuation_front}
+use Rattle.term_store.proofs.Prefixes.{prefix_refl, prefix_push, at_end, at_front, valuation_front}
 use Rattle.term_store.proofs.Prefixes.{sound_front}
 use Rattle.term_store.proofs.Places.{IsPlace, at_place, no_place, place_is, place_later}
 use Rattle.term_store.proofs.Index.{table_push}
@@ -52,9 +52,6 @@ interned_prefix t node =
 pub made_prefix : (t : List Node) (form : Form) → Prefix t (made t form).table
 made_prefix t form =
     by_made (λ (r : Interned). Prefix t r.table) t form (λ n e. prefix_refl t) (λ node e. interned_prefix t node)
-
-pub made_longer : (t : List Node) (form : Form) → length t ≤ length (made t form).table
-made_longer t form = prefix_length (made_prefix t form)
 
 pub made_most : (t : List Node) (form : Form) → length (made t form).table ≤ length t + 1
 made_most t form =

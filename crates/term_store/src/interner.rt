@@ -13,14 +13,16 @@ pub trait Interner: Nodes {
     fn intern(&mut self, node: Node) -> Result<u32, AllocError>
         requires room { length (Self.nodes self.now) < 2 ^ 32 - 1 }
         requires below { RefersBelow (length (Self.nodes self.now)) node.kind }
-        ensures ok { IfOk result (λ number. record { table = Self.nodes self.new; number = number } ≡ interned (Self.nodes self.old) node) }
+        ensures ok { IfOk result (λ number. record { table = Self.nodes self.new; number = number }
+            ≡ interned (Self.nodes self.old) node) }
         ensures err { OnErr result (Self.nodes self.new ≡ Self.nodes self.old) };
 
-    /// The number of what the rules make of a form, interned. The one error is want of memory, which leaves the table as
-    /// it was.
+    /// The number of what the rules make of a form, interned. The one error is want of memory, which leaves the table
+    /// as it was.
     fn make(&mut self, form: Form) -> Result<u32, AllocError>
         requires room { length (Self.nodes self.now) < 2 ^ 32 - 1 }
         requires fits { FormFits (Self.nodes self.now) form }
-        ensures ok { IfOk result (λ number. record { table = Self.nodes self.new; number = number } ≡ made (Self.nodes self.old) form) }
+        ensures ok { IfOk result (λ number. record { table = Self.nodes self.new; number = number }
+            ≡ made (Self.nodes self.old) form) }
         ensures err { OnErr result (Self.nodes self.new ≡ Self.nodes self.old) };
 }

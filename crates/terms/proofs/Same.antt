@@ -14,7 +14,10 @@ use Rattle.terms.specs.contracts.nodes.NodeKindPartialEq.TheImpl.{eq-value as ki
 use Rattle.terms.specs.contracts.nodes.NodePartialEq.TheImpl.{eq-value as node_eq}
 
 pub Term-Decides : (a b : Term) → Decides (term_eq.it a b) (a ≡ b)
-Term-Decides a b = Decides-like _ (λ p. λ i. record { times = p.0 i; node = p.1 i }) (λ e. (ap (λ (t : Term). t.times) e, ap (λ (t : Term). t.node) e)) (Decides-and _ _ (Decides-eqb a.times b.times) (Decides-eqb a.node b.node))
+Term-Decides a b =
+    Decides-like _ (λ p. λ i. record { times = p.0 i; node = p.1 i })
+    (λ e. (ap (λ (t : Term). t.times) e, ap (λ (t : Term). t.node) e))
+    (Decides-and _ _ (Decides-eqb a.times b.times) (Decides-eqb a.node b.node))
 
 terms_decide : (s t : List Term) → Decides (pointwise term_eq.it s t) (s ≡ t)
 terms_decide s t = slice_eq-Decides Term-Decides s t _ refl
@@ -48,12 +51,15 @@ NodeKind-Decides (kinds.Xor a b) (kinds.Xor c d) =
 NodeKind-Decides (kinds.Shr a b) (kinds.Shr c d) =
     Decides-like _ (λ p. cc) (λ e. (cc, cc)) (Decides-and _ _ (Decides-eqb a c) (Decides-eqb b d))
 NodeKind-Decides (kinds.Select a b c) (kinds.Select d e f) =
-    Decides-like _ (λ p. cc) (λ h. (cc, (cc, cc))) (Decides-and _ _ (Decides-eqb a d) (Decides-and _ _ (Decides-eqb b e) (Decides-eqb c f)))
+    Decides-like _ (λ p. cc) (λ h. (cc, (cc, cc))) (Decides-and _ _ (Decides-eqb a d) (Decides-and _ _ (Decides-eqb b e)
+    (Decides-eqb c f)))
 NodeKind-Decides (kinds.SetB a b) (kinds.SetB c d) =
     Decides-like _ (λ p. cc) (λ e. (cc, cc)) (Decides-and _ _ (Decides-eqb a c) (Decides-eqb b d))
 NodeKind-Decides a b = (λ e. absurd (false≢true e), λ e. cc)
 
 pub Node-Decides : (a b : Node) → Decides (node_eq.it a b) (a ≡ b)
 Node-Decides a b =
-    Decides-like _ (λ p. λ i. record { kind = p.0 i; low = p.1.0 i; high = p.1.1 i }) (λ e. (ap (λ (t : Node). t.kind) e, (ap (λ (t : Node). t.low) e, ap (λ (t : Node). t.high) e)))
-    (Decides-and _ _ (NodeKind-Decides a.kind b.kind) (Decides-and _ _ (Decides-eqb a.low b.low) (Decides-eqb a.high b.high)))
+    Decides-like _ (λ p. λ i. record { kind = p.0 i; low = p.1.0 i; high = p.1.1 i })
+    (λ e. (ap (λ (t : Node). t.kind) e, (ap (λ (t : Node). t.low) e, ap (λ (t : Node). t.high) e)))
+    (Decides-and _ _ (NodeKind-Decides a.kind b.kind) (Decides-and _ _ (Decides-eqb a.low b.low)
+    (Decides-eqb a.high b.high)))

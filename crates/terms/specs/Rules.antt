@@ -1,7 +1,8 @@
 -- The rules: what is made of a form over a table. Where no rule gives a number of the table or a constant, the form's
 -- own node is made, with its interval; and where the interval is one word, the node is that constant. Unordered
 -- arguments are put in the order of their numbers first.
-use Rattle.std.specs.Prelude.{ℕ, zero, suc, ◌+◌, ◌-◌, ◌^◌, Bool, true, false, not, ◌&&◌, ◌||◌, ◌==◌, nat_lt, nat_le, min, max}
+use Rattle.std.specs.Prelude.{ℕ, zero, suc, ◌+◌, ◌-◌, ◌^◌, Bool, true, false, not, ◌&&◌, ◌||◌, ◌==◌, nat_lt, nat_le}
+use Rattle.std.specs.Prelude.{min, max}
 use Rattle.std.specs.Prelude.{List, [], ◌∷◌, length, filter, fold, sum_by, slice_index_or, Option, Some, None}
 use Rattle.std.specs.Prelude.{if◌then◌else◌, bit_and, bit_or, bit_xor}
 use Rattle.base.specs.Options.{pick}

@@ -1,3 +1,4 @@
+-- The index finds the place of a node.
 use Rattle.std.proofs.Common.{◌∙◌}
 use Rattle.term_store.proofs.Index.{store_place}
 use Rattle.term_store.proofs.store.Store.find.Goals as goal

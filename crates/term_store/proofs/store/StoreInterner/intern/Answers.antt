@@ -1,3 +1,4 @@
+-- The index stays that of the list.
 use Rattle.std.proofs.Common.{◌∙◌, sym}
 use Rattle.term_store.proofs.Interned.{interned_found, pushed_is_interned}
 use Rattle.term_store.proofs.Index.{store_same, store_push}

@@ -1,3 +1,4 @@
+-- A node is the base's, or the tail's own.
 use Rattle.std.proofs.Common.{◌∙◌, sym}
 use Rattle.term_store.proofs.Index.{place_in_base, place_by_index}
 use Rattle.term_store.proofs.tail.Tail.find.Goals as goal

@@ -1,3 +1,4 @@
+-- The index stays that of the own nodes.
 use Rattle.std.proofs.Common.{◌∙◌, sym}
 use Rattle.term_store.specs.Indexed.{joined_nodes}
 use Rattle.term_store.proofs.Interned.{interned_found, pushed_is_joined}

@@ -1,3 +1,4 @@
+-- What the rules make is interned.
 use Rattle.std.proofs.Common.{◌∙◌, sym}
 use Rattle.term_store.specs.Indexed.{joined_nodes}
 use Rattle.term_store.proofs.Interned.{made_there, made_interned}
