@@ -1,5 +1,6 @@
 -- What the code of a check wants of runs, outputs and verdicts.
-use Rattle.std.proofs.Common.{◌≡◌, ℕ, ◌+◌, ◌*◌, ◌^◌, ◌<◌, ◌≤◌, Bool, true, false, List, [], ◌∷◌, ◌++◌, length, sym, ap, ◌∙◌}
+use Rattle.std.proofs.Common.{◌≡◌, ℕ, ◌+◌, ◌*◌, ◌^◌, ◌<◌, ◌≤◌, Bool, true, false, List, [], ◌∷◌, ◌++◌, length, sym, ap}
+use Rattle.std.proofs.Common.{◌∙◌}
 use Rattle.std.proofs.Common.{Option, Some, None, suc, append-nil, subst, refl, arith}
 use Rattle.std.specs.Prelude.{if◌then◌else◌}
 use Rattle.std.specs.List.{AllByRecursion, flat_map}
@@ -47,7 +48,8 @@ run_is : (program : Source) (lines : List Line) (j : Joined) (y : Symbols) (r : 
     → run_of program lines ≡ r
 unfolding run_of
 run_is program lines j y r e f is g =
-    ap (λ (t : List Node). run_from 1 lines t (symbols_at_start t program (frame_of lines))) (sym (only_base program j e f))
+    ap (λ (t : List Node). run_from 1 lines t (symbols_at_start t program (frame_of lines))) (sym
+        (only_base program j e f))
     ∙ ap (run_from 1 lines (joined_nodes j)) (sym is) ∙ g
 
 -- a run that the code made, of these lines, from this state and table
@@ -90,7 +92,8 @@ pub ran_shape : (program : Source) (lines : List Line) (j : Joined) (started : S
     → found ≡ None → Ran found z left (run_from 1 lines table y) → HasShape program (frame_of lines) z
 ran_shape program lines j started frame y z table left found ran e g =
     run_shape program (frame_of lines) lines 1 table y z
-    (subst (λ (n : ℕ). HasShape program n y) ran.frame_is (subst (λ (p : Source). HasShape p frame y) ran.same ran.shape))
+    (subst (λ (n : ℕ). HasShape program n y) ran.frame_is (subst
+        (λ (p : Source). HasShape p frame y) ran.same ran.shape))
     (ap (λ (r : SymbolicRun). r.ending) (subst (λ (o : Option ℕ). Ran o z left (run_from 1 lines table y)) e g))
 
 -- ---- outputs
@@ -107,7 +110,8 @@ words_count [] [] h = refl
 words_count [] (a ∷ arrays) h = absurd h
 words_count (p ∷ ps) [] h = absurd h
 words_count (p ∷ ps) (a ∷ arrays) h =
-    let first = subst (λ (r : Role). length (if is_output r then a.words else []) ≡ (if is_output p.role then length p.bounds else 0))
+    let first = subst (λ (r : Role). length (if is_output r then a.words else [])
+        ≡ (if is_output p.role then length p.bounds else 0))
     (sym h.0) (one_count p.role a.words (length p.bounds) h.1) in
     let rest = words_count ps arrays h.2 in
     length-append (if is_output a.role then a.words else [])

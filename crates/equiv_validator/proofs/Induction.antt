@@ -1,6 +1,7 @@
 -- The run of a proved listing, line by line: where the symbolic run ends, the machine's run does, and the two states
 -- agree all along.
-use Rattle.std.proofs.Common.{◌≡◌, ℕ, ◌+◌, Bool, true, false, List, [], ◌∷◌, Option, Some, None, refl, sym, ap, ◌∙◌, subst}
+use Rattle.std.proofs.Common.{◌≡◌, ℕ, ◌+◌, Bool, true, false, List, [], ◌∷◌, Option, Some, None, refl, sym, ap, ◌∙◌}
+use Rattle.std.proofs.Common.{subst}
 use Rattle.std.specs.Prelude.{MatchOption, if◌then◌else◌}
 use Rattle.std.specs.Bool.{MatchBool}
 use Rattle.base.specs.Options.{pick}
@@ -37,7 +38,8 @@ ended_inj : (y z : Symbols) → Ended y ≡ Ended z → y ≡ z
 ended_inj y z e = cc
 
 -- by cases of a test
-by_ret : {A : Type 0} (P : A → Type 0) (b : Bool) (x y : A) → (b ≡ true → P x) → (b ≡ false → P y) → P (if b then x else y)
+by_ret : {A : Type 0} (P : A → Type 0) (b : Bool) (x y : A) → (b ≡ true → P x) → (b ≡ false → P y)
+    → P (if b then x else y)
 by_ret P true x y f g = f refl
 by_ret P false x y f g = g refl
 

@@ -1,5 +1,6 @@
 -- Where the words that a symbolic state knows of all outputs are the program's nodes, each word of each output is.
-use Rattle.std.proofs.Common.{◌≡◌, ℕ, zero, suc, ◌+◌, ◌<◌, Bool, true, false, List, [], ◌∷◌, ◌++◌, length, map, take, drop}
+use Rattle.std.proofs.Common.{◌≡◌, ℕ, zero, suc, ◌+◌, ◌<◌, Bool, true, false, List, [], ◌∷◌, ◌++◌, length, map, take}
+use Rattle.std.proofs.Common.{drop}
 use Rattle.std.proofs.Common.{Option, Some, None, refl, sym, ap, ◌∙◌, subst, option_map, arith}
 use Rattle.std.specs.Prelude.{slice_get, if◌then◌else◌}
 use Rattle.std.specs.List.{flat_map, range_with_len}
@@ -48,7 +49,8 @@ module _ (ts : List Target) (ns : List ℕ) where
 
   same_length : (role : Role) (words : List (Option ℕ)) (param count : ℕ)
       → length words ≡ (if is_scalar role then 0 else count)
-      → length (if is_output role then words else []) ≡ length (map Some (if is_output role then nodes_of param count else []))
+      → length (if is_output role then words else [])
+          ≡ length (map Some (if is_output role then nodes_of param count else []))
   same_length Output words param count e =
       e ∙ sym (length-map (nodes_of param count) Some ∙ length-map-range_with_len (stored_word ts ns param) 0 count)
   same_length InputArray words param count e = refl
@@ -58,7 +60,8 @@ module _ (ts : List Target) (ns : List ℕ) where
       → flat_map written (a ∷ bs) ≡ map Some (outputs_from ts ns k (p ∷ ps))
       → (written a ≡ map Some (param_nodes k p)) × (flat_map written bs ≡ map Some (outputs_from ts ns (k + 1) ps))
   first_and_rest p ps a bs k h e =
-      append_split (written a) (map Some (param_nodes k p)) (flat_map written bs) (map Some (outputs_from ts ns (k + 1) ps))
+      append_split (written a) (map Some (param_nodes k p)) (flat_map written bs) (map Some (outputs_from ts ns
+          (k + 1) ps))
       (subst (λ (role : Role). length (if is_output role then a.words else []) ≡ length (map Some (param_nodes k p)))
           (sym h.0) (same_length p.role a.words k (length p.bounds) h.1))
       (e ∙ map_append Some (param_nodes k p) (outputs_from ts ns (k + 1) ps))

@@ -1,5 +1,6 @@
 -- A proved listing is correct.
-use Rattle.std.proofs.Common.{◌≡◌, ℕ, zero, suc, ◌+◌, ◌^◌, ◌<◌, ◌≤◌, Bool, true, false, List, [], ◌∷◌, Option, Some, get_or, refl, sym, ap, ◌∙◌, subst}
+use Rattle.std.proofs.Common.{◌≡◌, ℕ, zero, suc, ◌+◌, ◌^◌, ◌<◌, ◌≤◌, Bool, true, false, List, [], ◌∷◌, Option, Some}
+use Rattle.std.proofs.Common.{get_or, refl, sym, ap, ◌∙◌, subst}
 use Rattle.std.proofs.Common.{length, None, arith}
 use Rattle.std.specs.Option.{option_map_or}
 use Rattle.std.proofs.lemmas.Bool.Decides.{nat_tests}
@@ -68,7 +69,8 @@ by_param params None param word e h = absurd (not_below_zero word h)
 by_param params (Some p) param word e h = let r = by_role (is_output p.role) p word refl h in (p, e, r.0, r.1)
 
 -- so it is a word that the program writes
-output_there : (params : List Param) (param word : ℕ) → word < output_words params param → IsOutputWord params param word
+output_there : (params : List Param) (param word : ℕ) → word < output_words params param
+    → IsOutputWord params param word
 output_there params param word h =
     let p = by_param params (slice_get params param) param word refl h in
     subst (λ (o : Option Param). IsSomeAnd o (λ q. IsTrue (is_output q.role) × (word < length q.bounds))) (sym p.1)
@@ -93,16 +95,19 @@ module _ (program : Source) (lines : List Line) (inputs : List ℕ) (first : Sta
   (shape : HasShape program (frame_of lines) last)
   (starts : (r : Reg) → val (number_of r) ≡ reg first r)
   (stored : (param word : ℕ) → word < output_words program.params param
-    → val (stored_word (targets_of program.ops) (source_made program).numbers param word) ≡ output_word program inputs param word)
+    → val (stored_word (targets_of program.ops) (source_made program).numbers param word)
+        ≡ output_word program inputs param word)
   where
   outputs_hold : HasOutputs program last → (u : State) → Agrees program (frame_of lines) first val last u
       → (param word : ℕ) → word < output_words program.params param
-      → map.get u.cells (address_of first (frame_of lines) (Array param) word) ≡ Some (output_word program inputs param word)
+      → map.get u.cells (address_of first (frame_of lines) (Array param) word)
+          ≡ Some (output_word program inputs param word)
   unfolding source_outputs
   outputs_hold outputs u a param word h =
       let p = by_param program.params (slice_get program.params param) param word refl h in
       a.memory (Array param) word (stored_word (targets_of program.ops) (source_made program).numbers param word)
-      (output_known (targets_of program.ops) (source_made program).numbers program.params last.arrays 0 shape.arrays outputs
+      (output_known (targets_of program.ops)
+          (source_made program).numbers program.params last.arrays 0 shape.arrays outputs
           param word p.0 p.1 p.2 p.3
           ∙ ap (λ n. Some (stored_word (targets_of program.ops) (source_made program).numbers n word)) (omega arith))
       ∙ ap (λ n. Some n) (stored param word h)
@@ -172,7 +177,8 @@ module _ (program : Source) (accepted : IsAccepted program) where
         (λ shape u a. returns program lines inputs first val proved.last shape
             (λ r. start_value program accepted start val valued0 (number_of r) (number_below r))
             (λ param word h. stored_value program inputs start val accepted
-                (run_on lines inputs first val begins valued0 sound0) param word (output_there program.params param word h))
+                (run_on lines inputs first val begins valued0 sound0) param word
+                    (output_there program.params param word h))
             proved.outputs proved.saved_registers proved.stack u a)
         lines 1 T0 y first fit table fits (start_shape T0 program (frame_of lines)) (prefix_refl T)
         (start_agrees program accepted T0 (prefix_refl T0) lines inputs first val begins valued0 sound0) proved.ends;

@@ -1,7 +1,8 @@
--- When a listing is proved for a program: its symbolic run ends at `ret`, with the program's node in each output word and
--- with the start of each preserved register (System V AMD64 psABI, section 3.2.1) in that register. And why it is not:
--- the first failure, in this order.
-use Rattle.std.specs.Prelude.{◌≡◌, ◌≢◌, ℕ, Bool, true, false, not, ◌==◌, List, [], ◌∷◌, map, take, find, Option, Some, None}
+-- When a listing is proved for a program: its symbolic run ends at `ret`, with the program's node in each output word
+-- and with the start of each preserved register (System V AMD64 psABI, section 3.2.1) in that register. And why it is
+-- not: the first failure, in this order.
+use Rattle.std.specs.Prelude.{◌≡◌, ◌≢◌, ℕ, Bool, true, false, not, ◌==◌, List, [], ◌∷◌, map, take, find, Option, Some}
+use Rattle.std.specs.Prelude.{None}
 use Rattle.std.specs.Prelude.{slice_get}
 use Rattle.word_program.specs.Program.{Source}
 use Rattle.x86_instr.specs.declared.line.Line.{Line}

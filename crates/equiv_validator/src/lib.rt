@@ -2,8 +2,8 @@
 //!
 //! It promises to whoever publishes a listing that [`check`] says `Proved` exactly where the symbolic run of
 //! `specs/Runs.antt` leaves what `specs/Checks.antt` asks for, and that a proved listing is correct: from every start
-//! that the calling convention allows it stores the program's outputs, restores the saved registers, and changes nothing
-//! but outputs and frame. Where it says `Not`, it tells the first failure.
+//! that the calling convention allows it stores the program's outputs, restores the saved registers, and changes
+//! nothing but outputs and frame. Where it says `Not`, it tells the first failure.
 #![tactic(auto)]
 
 mod checking;

@@ -81,6 +81,3 @@ start_grown params all few t u w e f g =
     subst (Grows (IsProgramForm params) [] (16 + 192)) (sym (start_made params t u w e f g))
     (grows_more (IsProgramForm params) [] (made_all [] (start_forms params)).table (length (start_forms params))
     (16 + 192) (few_start_forms params all few) (start_grows params all))
-
--- what is known of a form that is made
-pub ruleset made_facts = (prefix_refl, made_prefix, made_below, made_most)

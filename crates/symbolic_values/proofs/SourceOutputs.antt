@@ -13,7 +13,8 @@ use Rattle.word_program.specs.declared.parameter.Param.{Param}
 use Rattle.word_program.specs.declared.operation.Target.{Target}
 use Rattle.word_program.specs.declared.operation.Target.TheVariants as targets
 use Rattle.word_program.specs.Program.{Source}
-use Rattle.word_program.specs.Values.{is_at, is_output, output_count, outputs, outputs_from, stored_word, targets_of, output_word}
+use Rattle.word_program.specs.Values.{is_at, is_output, output_count, outputs, outputs_from, stored_word, targets_of}
+use Rattle.word_program.specs.Values.{output_word}
 use Rattle.word_program.specs.Values.{values_of}
 use Rattle.word_program.specs.Accepted.{IsAccepted, IsOutputWord}
 use Rattle.terms.specs.Meaning.{Start}
@@ -108,33 +109,6 @@ module _ (ts : List Target) (ns : List ℕ) (many : length ns ≡ length ts) whe
         (outputs_from ts ns (param + 1) ps)
         ∙ (λ i. here i ++ rest i)
 
-  -- ---- they stand in a table
-
-  module _ (count : ℕ) (below : (n : ℕ) → n < length ts → slice_index ns n < count) where
-    word_below : (param word : ℕ) → count_by (is_at param word) ts ≡ 1 → stored_word ts ns param word < count
-    word_below param word once =
-        let at = has_place (is_at param word) ts once in
-        subst (λ (o : Option ℕ). option_map_or (slice_index ns) o 0 < count) (sym at.is) (below at.place at.inside)
-
-    words_below : (param k n : ℕ) → ((word : ℕ) → word < k + n → count_by (is_at param word) ts ≡ 1)
-        → All (λ m. m < count) (map (stored_word ts ns param) (range_with_len k n))
-    words_below param k zero all = All-nil (λ (m : ℕ). m < count)
-    words_below param k (suc n) all = All-cons (λ (m : ℕ). m < count) _ _ (word_below param k (all k (omega arith)))
-        (words_below param (k + 1) n (λ word h. all word (omega arith)))
-
-    param_below : (param : ℕ) (b : Bool) (n : ℕ)
-        → (b ≡ true → (word : ℕ) → word < n → count_by (is_at param word) ts ≡ 1)
-        → All (λ m. m < count) (if b then map (stored_word ts ns param) (range_with_len 0 n) else [])
-    param_below param true n all = words_below param 0 n (λ word h. all refl word (omega arith))
-    param_below param false n all = All-nil (λ (m : ℕ). m < count)
-
-    outputs_below : (param : ℕ) (ps : List Param) → AreWritten ts param ps
-        → All (λ m. m < count) (outputs_from ts ns param ps)
-    outputs_below param [] all = All-nil (λ (m : ℕ). m < count)
-    outputs_below param (p ∷ ps) all = All-append (λ (m : ℕ). m < count) _ _
-        (param_below param (is_output p.role) (length p.bounds) (written_here ts param p ps all))
-        (outputs_below (param + 1) ps (written_next ts param p ps all))
-
 -- ---- how many there are
 
 param_many : (f : ℕ → ℕ) (b : Bool) (n : ℕ)
@@ -162,14 +136,6 @@ written_all program accepted k word h = let e : k ≡ 0 + k = omega arith in
 pub many_outputs : (program : Source) → length (source_outputs program) ≡ output_count program.params
 unfolding source_outputs
 many_outputs program = many_from (targets_of program.ops) (source_made program).numbers 0 program.params
-
--- they stand in the table
-pub outputs_inside : (program : Source) → IsAccepted program
-    → All (λ n. n < length (source_made program).table) (source_outputs program)
-unfolding source_outputs
-outputs_inside program accepted = outputs_below (targets_of program.ops) (source_made program).numbers
-    (many_nodes program accepted) (length (source_made program).table)
-    (λ n h. (value_node program accepted n h).inside) 0 program.params (written_all program accepted)
 
 -- they have the program's output words
 pub outputs_words : (program : Source) (inputs : List ℕ) (start : Start) (val : ℕ → ℕ) → IsAccepted program

@@ -119,12 +119,3 @@ source_words program inputs start val accepted run =
     ops_values program.params accepted.params inputs run.within start val run.given program.ops []
     (at_start program.params) accepted.ops (start_sourced program.params accepted.params)
     (record { valuation = run.valuation; sound = run.sound })
-
--- the word of a value's node
-pub source_values : (program : Source) (inputs : List ℕ) (start : Start) (val : ℕ → ℕ) → IsAccepted program
-    → IsRunOn program inputs start val → (n : ℕ) → n < length (targets_of program.ops)
-    → val (slice_index (source_made program).numbers n) ≡ slice_index (values_of program inputs) n
-source_values program inputs start val accepted run n h =
-    let many = many_nodes program accepted in
-    sym (get_or-map val (source_made program).numbers n 0 0 (omega arith))
-    ∙ ap (λ (xs : List ℕ). slice_index xs n) (source_words program inputs start val accepted run)

@@ -75,8 +75,9 @@ pub record Steps (program : Source) (frame : ℕ) (first : State) (val : ℕ →
       → IsWritable program.params frame first address
   pub touches : TouchAgrees first y.touch (touched i s)
 
--- The symbolic step of the instruction, which keeps its ranges, covers the machine's step: in every run of a listing for
--- a program, where the two states agree and the symbolic step is not stuck. `val` gives the nodes' words in this run.
+-- The symbolic step of the instruction, which keeps its ranges, covers the machine's step: in every run of a listing
+-- for a program, where the two states agree and the symbolic step is not stuck. `val` gives the nodes' words in this
+-- run.
 abbrev pub Covers : Instr → List Node → Symbols → Type 0
 Covers i table y =
     FitsInstr i → IsTable table → FitsTable table y

@@ -1,9 +1,9 @@
 //! Symbolic steps: a listing run on nodes, which stand for words, in place of the words themselves.
 //!
-//! It promises to whoever checks a listing that [`source`] makes the nodes of a program and [`start`] the symbolic state
-//! at the start, both as `specs/Sources.antt` says; that [`SymState::sym_step`] is the step of `specs/Steps.antt`; and,
-//! in its laws, that nodes have the values of the program ([`source_nodes_have_values`]) and that a symbolic step covers
-//! the machine's step ([`symbolic_steps_cover_steps`]).
+//! It promises to whoever checks a listing that [`source`] makes the nodes of a program and [`start`] the symbolic
+//! state at the start, both as `specs/Sources.antt` says; that [`SymState::sym_step`] is the step of
+//! `specs/Steps.antt`; and, in its laws, that nodes have the values of the program ([`source_nodes_have_values`]) and
+//! that a symbolic step covers the machine's step ([`symbolic_steps_cover_steps`]).
 #![tactic(auto)]
 
 mod array;

@@ -1,3 +1,4 @@
+-- Array by array, the words are forgotten.
 use Rattle.std.proofs.Common.{◌<◌, length, arith}
 use Rattle.std.proofs.lemmas.List.Edits.{map_over_more}
 use Rattle.symbolic_values.specs.Cells.{forgotten}

@@ -1,3 +1,4 @@
+-- The arrays so far are forgotten.
 use Rattle.std.proofs.Common.{◌≡◌, ◌++◌, map, take, drop}
 use Rattle.symbolic_values.specs.Cells.{forgotten}
 use Rattle.symbolic_values.proofs.state.forget_all.Given as goal

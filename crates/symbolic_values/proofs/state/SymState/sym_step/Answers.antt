@@ -1,3 +1,4 @@
+-- A step leaves a state that fits its table.
 use Rattle.symbolic_values.proofs.StepFits.{answered_fits}
 use Rattle.symbolic_values.proofs.state.SymState.sym_step.Goals as goal
 
