@@ -1,4 +1,5 @@
 -- Along the operations, and then by the place of each output word.
+use Rattle.symbolic_values.proofs.ProgramNodes.{value_node}
 use Rattle.symbolic_values.proofs.SourceOutputs.{outputs_words}
 use Rattle.symbolic_values.proofs.SourceValues.{source_words}
 use Rattle.symbolic_values.proofs.laws.source_nodes_have_values.Goals as goal
@@ -8,3 +9,6 @@ returns-clause-values c = source_words
 
 pub returns-clause-outputs : goal.returns-clause-outputs
 returns-clause-outputs c = outputs_words
+
+pub returns-clause-nodes : goal.returns-clause-nodes
+returns-clause-nodes c = value_node
