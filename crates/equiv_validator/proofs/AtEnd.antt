@@ -49,7 +49,7 @@ run_is : (program : Source) (lines : List Line) (j : Joined) (y : Symbols) (r : 
 unfolding run_of
 run_is program lines j y r e f is g =
     ap (λ (t : List Node). run_from 1 lines t (symbols_at_start t program (frame_of lines))) (sym
-        (only_base program j e f))
+    (only_base program j e f))
     ∙ ap (run_from 1 lines (joined_nodes j)) (sym is) ∙ g
 
 -- a run that the code made, of these lines, from this state and table
@@ -93,7 +93,7 @@ pub ran_shape : (program : Source) (lines : List Line) (j : Joined) (started : S
 ran_shape program lines j started frame y z table left found ran e g =
     run_shape program (frame_of lines) lines 1 table y z
     (subst (λ (n : ℕ). HasShape program n y) ran.frame_is (subst
-        (λ (p : Source). HasShape p frame y) ran.same ran.shape))
+    (λ (p : Source). HasShape p frame y) ran.same ran.shape))
     (ap (λ (r : SymbolicRun). r.ending) (subst (λ (o : Option ℕ). Ran o z left (run_from 1 lines table y)) e g))
 
 -- ---- outputs
@@ -111,7 +111,7 @@ words_count [] (a ∷ arrays) h = absurd h
 words_count (p ∷ ps) [] h = absurd h
 words_count (p ∷ ps) (a ∷ arrays) h =
     let first = subst (λ (r : Role). length (if is_output r then a.words else [])
-        ≡ (if is_output p.role then length p.bounds else 0))
+    ≡ (if is_output p.role then length p.bounds else 0))
     (sym h.0) (one_count p.role a.words (length p.bounds) h.1) in
     let rest = words_count ps arrays h.2 in
     length-append (if is_output a.role then a.words else [])
@@ -129,9 +129,9 @@ few_words (p ∷ ps) all =
     let rest = few_words ps all.1 in
     let most = all.0.words in
     few_if (is_output p.role) (length p.bounds) (output_count ps) (length ps) most rest where
-  few_if : (b : Bool) (n rest many : ℕ) → n ≤ 32 → rest ≤ 32 * many → (if b then n else 0) + rest ≤ 32 * suc many
-  few_if true n rest many h g = omega arith
-  few_if false n rest many h g = omega arith
+      few_if : (b : Bool) (n rest many : ℕ) → n ≤ 32 → rest ≤ 32 * many → (if b then n else 0) + rest ≤ 32 * suc many
+      few_if true n rest many h g = omega arith
+      few_if false n rest many h g = omega arith
 
 pub few_outputs : (program : Source) (nodes : List ℕ) → IsAccepted program → nodes ≡ source_outputs program
     → length nodes < 2 ^ 32

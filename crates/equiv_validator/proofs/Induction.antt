@@ -62,7 +62,7 @@ run_prefix (line ∷ more) n t y =
     by_ret (λ (r : SymbolicRun). Prefix t r.table) (is_ret line.instr) (at_ret t y)
     (go_on n more (step_of line.instr t y).table (step_of line.instr t y).state) (λ _. prefix_refl t)
     (λ _. prefix_on n more t (step_of line.instr t y).table (step_of line.instr t y).state (step_prefix line.instr t y)
-        (λ z. run_prefix more (n + 1) (step_of line.instr t y).table z))
+    (λ z. run_prefix more (n + 1) (step_of line.instr t y).table z))
 
 -- a run keeps the shape of its states
 shape_on : (program : Source) (frame n : ℕ) (more : List Line) (u : List Node) (state : Option Symbols) (last : Symbols)
@@ -80,14 +80,14 @@ run_shape program frame (line ∷ more) n t y last h e =
     (go_on n more (step_of line.instr t y).table (step_of line.instr t y).state)
     (λ _ f. subst (HasShape program frame) (ended_inj y last f) h)
     (λ _ f. shape_on program frame n more (step_of line.instr t y).table (step_of line.instr t y).state last f
-        (λ z q g. run_shape program frame more (n + 1) (step_of line.instr t y).table z last
-        (step_shape program frame line.instr t y z h q) g)) e
+    (λ z q g. run_shape program frame more (n + 1) (step_of line.instr t y).table z last
+    (step_shape program frame line.instr t y z h q) g)) e
 
 -- the tables of a run are tables that the rules have made
 module _ (P : Form → Type 0) (plain : (f : Form) → IsPlain f → P f) where
   grown_on : (n : ℕ) (more : List Line) (u : List Node) (state : Option Symbols) → IsTable u → IsGrown P u
       → ((z : Symbols) → state ≡ Some z → IsTable (run_from (n + 1) more u z).table
-          × IsGrown P (run_from (n + 1) more u z).table)
+      × IsGrown P (run_from (n + 1) more u z).table)
       → IsTable (go_on n more u state).table × IsGrown P (go_on n more u state).table
   grown_on n more u None o g rest = (o, g)
   grown_on n more u (Some z) o g rest = rest z refl
@@ -100,64 +100,64 @@ module _ (P : Form → Type 0) (plain : (f : Form) → IsPlain f → P f) where
       by_ret (λ (r : SymbolicRun). IsTable r.table × IsGrown P r.table) (is_ret line.instr) (at_ret t y)
       (go_on n more (step_of line.instr t y).table (step_of line.instr t y).state) (λ _. (o, g))
       (λ _. grown_on n more (step_of line.instr t y).table (step_of line.instr t y).state
-          (step_table line.instr t y o f) (step_grown line.instr t y o f P plain g)
-          (λ z q. run_grown more (n + 1) (step_of line.instr t y).table z (step_table line.instr t y o f)
-          (step_fits line.instr t y o f z q) (step_grown line.instr t y o f P plain g)))
+      (step_table line.instr t y o f) (step_grown line.instr t y o f P plain g)
+      (λ z q. run_grown more (n + 1) (step_of line.instr t y).table z (step_table line.instr t y o f)
+      (step_fits line.instr t y o f z q) (step_grown line.instr t y o f P plain g)))
 
 module _ (program : Source) (lines : List Line) (inputs : List ℕ) (first : State)
-  (begins : IsStart program lines inputs first) (val : ℕ → ℕ) (T : List Node)
-  (valued : IsValuation (start_of program.params inputs first) T val) (sound : IsSound T val) (last : Symbols)
-  (Q : State → Type 0)
-  (returns : HasShape program (frame_of lines) last → (u : State) → Agrees program (frame_of lines) first val last u
+    (begins : IsStart program lines inputs first) (val : ℕ → ℕ) (T : List Node)
+    (valued : IsValuation (start_of program.params inputs first) T val) (sound : IsSound T val) (last : Symbols)
+    (Q : State → Type 0)
+    (returns : HasShape program (frame_of lines) last → (u : State) → Agrees program (frame_of lines) first val last u
     → Q u)
   where
-  abbrev Kept : State → Type 0
-  Kept t = Keeps program.params (frame_of lines) first t.cells
+    abbrev Kept : State → Type 0
+    Kept t = Keeps program.params (frame_of lines) first t.cells
 
-  -- the symbolic run from here leaves a table that begins T, and ends in `last`; the two states agree
-  abbrev Goes : List Line → ℕ → List Node → Symbols → State → Type 0
-  Goes rest n t y s = FitsLines rest → IsTable t → FitsTable t y → HasShape program (frame_of lines) y
-      → Prefix (run_from n rest t y).table T → Agrees program (frame_of lines) first val y s
-      → (run_from n rest t y).ending ≡ Ended last → Runs Kept Q rest s
+    -- the symbolic run from here leaves a table that begins T, and ends in `last`; the two states agree
+    abbrev Goes : List Line → ℕ → List Node → Symbols → State → Type 0
+    Goes rest n t y s = FitsLines rest → IsTable t → FitsTable t y → HasShape program (frame_of lines) y
+        → Prefix (run_from n rest t y).table T → Agrees program (frame_of lines) first val y s
+        → (run_from n rest t y).ending ≡ Ended last → Runs Kept Q rest s
 
-  on_state : (i : Instr) (more : List Line) (n : ℕ) (t : List Node) (y : Symbols) (s : State) → FitsInstr i
-      → FitsLines more → IsTable t
-      → FitsTable t y → HasShape program (frame_of lines) y → Agrees program (frame_of lines) first val y s
-      → ((z : Symbols) (u : State) → Goes more (n + 1) (step_of i t y).table z u)
-      → (state : Option Symbols) → (step_of i t y).state ≡ state
-      → Prefix (go_on n more (step_of i t y).table state).table T
-      → (go_on n more (step_of i t y).table state).ending ≡ Ended last
-      → MatchOption (machine.step_of i s) ⊥ (λ u. Runs Kept Q more u)
-  on_state i more n t y s g l o f h a rest None q p e = absurd (stuck_is_not_ended n last e)
-  on_state i more n t y s g l o f h a rest (Some z) q p e =
-      let next = (step_of i t y).table in
-      let front : Prefix (step_of i t y).table T =
-      prefix_trans (run_prefix more (n + 1) (step_of i t y).table z) p in
-      let c = covers i t y g o f program lines inputs first s val begins h z q
-      (valuation_front front valued)
-      (sound_front front sound) a in
-      subst (λ (found : Option State). MatchOption found ⊥ (λ u. Runs Kept Q more u)) (sym c.goes)
-      (rest z c.next l (step_table i t y o f) (step_fits i t y o f z q)
-      (step_shape program (frame_of lines) i t y z h q) p c.agrees e)
+    on_state : (i : Instr) (more : List Line) (n : ℕ) (t : List Node) (y : Symbols) (s : State) → FitsInstr i
+        → FitsLines more → IsTable t
+        → FitsTable t y → HasShape program (frame_of lines) y → Agrees program (frame_of lines) first val y s
+        → ((z : Symbols) (u : State) → Goes more (n + 1) (step_of i t y).table z u)
+        → (state : Option Symbols) → (step_of i t y).state ≡ state
+        → Prefix (go_on n more (step_of i t y).table state).table T
+        → (go_on n more (step_of i t y).table state).ending ≡ Ended last
+        → MatchOption (machine.step_of i s) ⊥ (λ u. Runs Kept Q more u)
+    on_state i more n t y s g l o f h a rest None q p e = absurd (stuck_is_not_ended n last e)
+    on_state i more n t y s g l o f h a rest (Some z) q p e =
+        let next = (step_of i t y).table in
+        let front : Prefix (step_of i t y).table T =
+        prefix_trans (run_prefix more (n + 1) (step_of i t y).table z) p in
+        let c = covers i t y g o f program lines inputs first s val begins h z q
+        (valuation_front front valued)
+        (sound_front front sound) a in
+        subst (λ (found : Option State). MatchOption found ⊥ (λ u. Runs Kept Q more u)) (sym c.goes)
+        (rest z c.next l (step_table i t y o f) (step_fits i t y o f z q)
+        (step_shape program (frame_of lines) i t y z h q) p c.agrees e)
 
-  on_ret : (i : Instr) (more : List Line) (n : ℕ) (t : List Node) (y : Symbols) (s : State) → FitsInstr i
-      → FitsLines more → IsTable t
-      → FitsTable t y → HasShape program (frame_of lines) y → Agrees program (frame_of lines) first val y s
-      → ((z : Symbols) (u : State) → Goes more (n + 1) (step_of i t y).table z u)
-      → (b : Bool)
-      → Prefix (if b then at_ret t y
-          else go_on n more (step_of i t y).table (step_of i t y).state).table T
-      → (if b then at_ret t y
-          else go_on n more (step_of i t y).table (step_of i t y).state).ending ≡ Ended last
-      → MatchBool b (Q s) (Kept s × MatchOption (machine.step_of i s) ⊥ (λ u. Runs Kept Q more u))
-  on_ret i more n t y s g l o f h a rest true p e =
-      returns (subst (HasShape program (frame_of lines)) (ended_inj y last e) h) s
-      (subst (λ (z : Symbols). Agrees program (frame_of lines) first val z s) (ended_inj y last e) a)
-  on_ret i more n t y s g l o f h a rest false p e =
-      (a.keeps, on_state i more n t y s g l o f h a rest (step_of i t y).state refl p e)
+    on_ret : (i : Instr) (more : List Line) (n : ℕ) (t : List Node) (y : Symbols) (s : State) → FitsInstr i
+        → FitsLines more → IsTable t
+        → FitsTable t y → HasShape program (frame_of lines) y → Agrees program (frame_of lines) first val y s
+        → ((z : Symbols) (u : State) → Goes more (n + 1) (step_of i t y).table z u)
+        → (b : Bool)
+        → Prefix (if b then at_ret t y
+        else go_on n more (step_of i t y).table (step_of i t y).state).table T
+        → (if b then at_ret t y
+        else go_on n more (step_of i t y).table (step_of i t y).state).ending ≡ Ended last
+        → MatchBool b (Q s) (Kept s × MatchOption (machine.step_of i s) ⊥ (λ u. Runs Kept Q more u))
+    on_ret i more n t y s g l o f h a rest true p e =
+        returns (subst (HasShape program (frame_of lines)) (ended_inj y last e) h) s
+        (subst (λ (z : Symbols). Agrees program (frame_of lines) first val z s) (ended_inj y last e) a)
+    on_ret i more n t y s g l o f h a rest false p e =
+        (a.keeps, on_state i more n t y s g l o f h a rest (step_of i t y).state refl p e)
 
-  pub runs : (rest : List Line) (n : ℕ) (t : List Node) (y : Symbols) (s : State) → Goes rest n t y s
-  runs [] n t y s l o f h p a e = stuck_is_not_ended n last e
-  runs (line ∷ more) n t y s l o f h p a e =
-      on_ret line.instr more n t y s l.0 l.2 o f h a
-      (λ z u. runs more (n + 1) (step_of line.instr t y).table z u) (is_ret line.instr) p e
+    pub runs : (rest : List Line) (n : ℕ) (t : List Node) (y : Symbols) (s : State) → Goes rest n t y s
+    runs [] n t y s l o f h p a e = stuck_is_not_ended n last e
+    runs (line ∷ more) n t y s l o f h p a e =
+        on_ret line.instr more n t y s l.0 l.2 o f h a
+        (λ z u. runs more (n + 1) (step_of line.instr t y).table z u) (is_ret line.instr) p e

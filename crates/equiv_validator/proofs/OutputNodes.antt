@@ -50,7 +50,7 @@ module _ (ts : List Target) (ns : List ℕ) where
   same_length : (role : Role) (words : List (Option ℕ)) (param count : ℕ)
       → length words ≡ (if is_scalar role then 0 else count)
       → length (if is_output role then words else [])
-          ≡ length (map Some (if is_output role then nodes_of param count else []))
+      ≡ length (map Some (if is_output role then nodes_of param count else []))
   same_length Output words param count e =
       e ∙ sym (length-map (nodes_of param count) Some ∙ length-map-range_with_len (stored_word ts ns param) 0 count)
   same_length InputArray words param count e = refl
@@ -61,9 +61,9 @@ module _ (ts : List Target) (ns : List ℕ) where
       → (written a ≡ map Some (param_nodes k p)) × (flat_map written bs ≡ map Some (outputs_from ts ns (k + 1) ps))
   first_and_rest p ps a bs k h e =
       append_split (written a) (map Some (param_nodes k p)) (flat_map written bs) (map Some (outputs_from ts ns
-          (k + 1) ps))
+      (k + 1) ps))
       (subst (λ (role : Role). length (if is_output role then a.words else []) ≡ length (map Some (param_nodes k p)))
-          (sym h.0) (same_length p.role a.words k (length p.bounds) h.1))
+      (sym h.0) (same_length p.role a.words k (length p.bounds) h.1))
       (e ∙ map_append Some (param_nodes k p) (outputs_from ts ns (k + 1) ps))
 
   -- a word of the list of an output's nodes
@@ -74,8 +74,8 @@ module _ (ts : List Target) (ns : List ℕ) where
       ap (λ o. o >>= λ node. node) (slice_get-map Some (nodes_of param count) word)
       ∙ ap (λ (o : Option ℕ). found o) (slice_get-get_or (nodes_of param count) word 0 (omega arith))
       ∙ ap (λ n. Some n) (get_or-map-range_with_len (stored_word ts ns param) 0 count word word 0 h (omega arith)) where
-      found : Option ℕ → Option ℕ
-      found o = option_map Some o >>= λ node. node
+        found : Option ℕ → Option ℕ
+        found o = option_map Some o >>= λ node. node
 
   first_known : (a : Array) (d : Param) (k word : ℕ) → a.role ≡ d.role → written a ≡ map Some (param_nodes k d)
       → is_output d.role ≡ true → word < length d.bounds → known a.words word ≡ Some (stored_word ts ns (k + 0) word)

@@ -92,44 +92,52 @@ none_lost y (r ∷ rs) e = first_kept (is_restored y r) refl e (none_lost y rs) 
   first_kept false b e rest = absurd (some_is_none r e)
 
 module _ (program : Source) (lines : List Line) (inputs : List ℕ) (first : State) (val : ℕ → ℕ) (last : Symbols)
-  (shape : HasShape program (frame_of lines) last)
-  (starts : (r : Reg) → val (number_of r) ≡ reg first r)
-  (stored : (param word : ℕ) → word < output_words program.params param
+    (shape : HasShape program (frame_of lines) last)
+    (starts : (r : Reg) → val (number_of r) ≡ reg first r)
+    (stored : (param word : ℕ) → word < output_words program.params param
     → val (stored_word (targets_of program.ops) (source_made program).numbers param word)
-        ≡ output_word program inputs param word)
+    ≡ output_word program inputs param word)
   where
-  outputs_hold : HasOutputs program last → (u : State) → Agrees program (frame_of lines) first val last u
-      → (param word : ℕ) → word < output_words program.params param
-      → map.get u.cells (address_of first (frame_of lines) (Array param) word)
-          ≡ Some (output_word program inputs param word)
-  unfolding source_outputs
-  outputs_hold outputs u a param word h =
-      let p = by_param program.params (slice_get program.params param) param word refl h in
-      a.memory (Array param) word (stored_word (targets_of program.ops) (source_made program).numbers param word)
-      (output_known (targets_of program.ops)
-          (source_made program).numbers program.params last.arrays 0 shape.arrays outputs
-          param word p.0 p.1 p.2 p.3
-          ∙ ap (λ n. Some (stored_word (targets_of program.ops) (source_made program).numbers n word)) (omega arith))
-      ∙ ap (λ n. Some n) (stored param word h)
+    outputs_hold : HasOutputs program last → (u : State) → Agrees program (frame_of lines) first val last u
+        → (param word : ℕ) → word < output_words program.params param
+        → map.get u.cells (address_of first (frame_of lines) (Array param) word)
+        ≡ Some (output_word program inputs param word)
+    unfolding source_outputs
+    outputs_hold outputs u a param word h =
+        let p = by_param program.params (slice_get program.params param) param word refl h in
+        a.memory (Array param) word (stored_word (targets_of program.ops) (source_made program).numbers param word)
+        (output_known (targets_of program.ops)
+        (source_made program).numbers program.params last.arrays 0 shape.arrays outputs
+        param word p.0 p.1 p.2 p.3
+        ∙ ap (λ n. Some (stored_word (targets_of program.ops) (source_made program).numbers n word)) (omega arith))
+        ∙ ap (λ n. Some n) (stored param word h)
 
-  restored : (u : State) → Agrees program (frame_of lines) first val last u → (r : Reg)
-      → is_restored last r ≡ true → reg u r ≡ reg first r
-  restored u a r e = let same : node_in last r ≡ number_of r = grind (arith, nat_tests, e) in
-      a.registers r ∙ ap val same ∙ starts r
+    restored : (u : State) → Agrees program (frame_of lines) first val last u → (r : Reg)
+        → is_restored last r ≡ true → reg u r ≡ reg first r
+    restored u a r e = let same : node_in last r ≡ number_of r = grind (arith, nat_tests, e) in
+        a.registers r ∙ ap val same ∙ starts r
 
-  pub returns : HasOutputs program last → lost_register last ≡ None → is_restored last Rsp ≡ true → (u : State)
-      → Agrees program (frame_of lines) first val last u → Returns program (frame_of lines) inputs first u
-  returns outputs none stack u a =
-      let all = none_lost last saved none in
-      record {
-    outputs = outputs_hold outputs u a;
-    registers = (
-      restored u a Rbx all.0,
-      (restored u a Rbp all.1.0, (restored u a R12 all.1.1.0, (restored u a R13 all.1.1.1.0,
-          (restored u a R14 all.1.1.1.1.0, (restored u a R15 all.1.1.1.1.1.0, (restored u a Rsp stack, tt)))))),
-    );
-    keeps = a.keeps;
-  }
+    pub returns : HasOutputs program last → lost_register last ≡ None → is_restored last Rsp ≡ true → (u : State)
+        → Agrees program (frame_of lines) first val last u → Returns program (frame_of lines) inputs first u
+    returns outputs none stack u a =
+        let all = none_lost last saved none in
+        record {
+          outputs = outputs_hold outputs u a;
+          registers = (
+            restored u a Rbx all.0,
+            (
+              restored u a Rbp all.1.0,
+              (
+                restored u a R12 all.1.1.0,
+                (
+                  restored u a R13 all.1.1.1.0,
+                  (restored u a R14 all.1.1.1.1.0, (restored u a R15 all.1.1.1.1.1.0, (restored u a Rsp stack, tt))),
+                ),
+              ),
+            ),
+          );
+          keeps = a.keeps;
+        }
 
 -- ---- from every start
 
@@ -175,11 +183,11 @@ module _ (program : Source) (accepted : IsAccepted program) where
         runs program lines inputs first begins val T valued sound proved.last
         (Returns program (frame_of lines) inputs first)
         (λ shape u a. returns program lines inputs first val proved.last shape
-            (λ r. start_value program accepted start val valued0 (number_of r) (number_below r))
-            (λ param word h. stored_value program inputs start val accepted
-                (run_on lines inputs first val begins valued0 sound0) param word
-                    (output_there program.params param word h))
-            proved.outputs proved.saved_registers proved.stack u a)
+        (λ r. start_value program accepted start val valued0 (number_of r) (number_below r))
+        (λ param word h. stored_value program inputs start val accepted
+        (run_on lines inputs first val begins valued0 sound0) param word
+        (output_there program.params param word h))
+        proved.outputs proved.saved_registers proved.stack u a)
         lines 1 T0 y first fit table fits (start_shape T0 program (frame_of lines)) (prefix_refl T)
         (start_agrees program accepted T0 (prefix_refl T0) lines inputs first val begins valued0 sound0) proved.ends;
   }

@@ -7,14 +7,7 @@ use symbolic_values::SymState;
 use x86_instr::Reg;
 
 /// The registers, other than the stack pointer, that a function gives back as it found them.
-const SAVED: [Reg; 6] = [
-    Reg::Rbx,
-    Reg::Rbp,
-    Reg::R12,
-    Reg::R13,
-    Reg::R14,
-    Reg::R15,
-];
+const SAVED: [Reg; 6] = [Reg::Rbx, Reg::Rbp, Reg::R12, Reg::R13, Reg::R14, Reg::R15];
 
 fn is_restored(state: &SymState, reg: Reg) -> bool
     ensures { result ≡ spec.is_restored state.now reg }
@@ -26,10 +19,7 @@ fn is_restored(state: &SymState, reg: Reg) -> bool
 fn lost_register(state: &SymState) -> Option<Reg>
     ensures { result ≡ spec.lost_register state.now }
 {
-    SAVED
-        .iter()
-        .copied()
-        .find(|reg| !is_restored(state, *reg))
+    SAVED.iter().copied().find(|reg| !is_restored(state, *reg))
 }
 
 fn is_node(found: Option<u32>, node: u32) -> bool

@@ -4,7 +4,9 @@ use x86_instr::Reg;
 #[derive(Clone, Copy, Debug, PartialEq, Eq)]
 pub enum Why {
     /// The symbolic step of this line, counted from 1, is stuck.
-    Stuck { line: u32 },
+    Stuck {
+        line: u32,
+    },
     /// This output word, counted from 0 in the order of the parameters, has another node than the program's, whose
     /// number is `source`; or nothing is known of it.
     Output {
@@ -13,7 +15,9 @@ pub enum Why {
         listing: Option<u32>,
     },
     /// This register does not hold what it held at the start.
-    Saved { reg: Reg },
+    Saved {
+        reg: Reg,
+    },
     /// Nor does the stack pointer.
     Stack,
 }

@@ -243,10 +243,6 @@ step_extends i t y = from_extends t (with_touch None y) i
 pub step_prefix : (i : Instr) (t : List Node) (y : Symbols) → Prefix t (step_of i t y).table
 step_prefix i t y = (step_extends i t y).adds.prefix
 
--- at most 16 nodes more
-pub step_most : (i : Instr) (t : List Node) (y : Symbols) → length (step_of i t y).table ≤ length t + 16
-step_most i t y = (step_extends i t y).adds.most
-
 pub step_shape : (program : Source) (frame : ℕ) (i : Instr) (t : List Node) (y z : Symbols) → HasShape program frame y
     → (step_of i t y).state ≡ Some z → HasShape program frame z
 step_shape program frame i t y z shape e = subst (λ o. IfSome o (HasShape program frame)) e

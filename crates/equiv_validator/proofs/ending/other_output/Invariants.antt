@@ -7,5 +7,5 @@ use Rattle.equiv_validator.proofs.ending.other_output.Given as goal
 abbrev pub invariant-loop-source : goal.invariant-loop-source
 invariant-loop-source l = record {
   number : l.word ≡ l.source-index;
-  same : spec.HaveNodes (take l.source-index (words_written l.state)) (take l.source-index l.nodes)
+  same : spec.HaveNodes (take l.source-index (words_written l.state)) (take l.source-index l.nodes);
 }

@@ -12,5 +12,5 @@ invariant-loop-line g l = record {
       ≡ run_from 1 l.lines (g.T.Nodes.nodes l.initial.store) l.initial.state;
   fits : FitsTable (g.T.Nodes.nodes l.store) l.state;
   grows : Prefix (g.T.Nodes.nodes l.initial.store) (g.T.Nodes.nodes l.store);
-  few : length (g.T.Nodes.nodes l.store) ≤ length (g.T.Nodes.nodes l.initial.store) + 16 * l.line-index
+  few : length (g.T.Nodes.nodes l.store) ≤ length (g.T.Nodes.nodes l.initial.store) + 16 * l.line-index;
 }
