@@ -6,8 +6,8 @@ use std::alloc::Global;
 use std::test::Fail;
 
 // The operations of a program, a listing's lines, and the verdict. The program's nodes behind the registers' starts are
-// 16 for `c`, which is a bit in rsi; 17 and 18 for `a` and `b`, words in rdx and rcx; 19 and 20 for the two words of
-// `x`, at r8; then those of the operations.
+// 16 for `c`, which is a bit in rsi; 17 and 18 for `a` and `b`, words in rdx and rcx; 19 and 20 for the words of `x`,
+// an array at r8; then those of the operations.
 const ROWS: &str = "\
 o[0] = = a | mov [rdi], rdx; ret | proved
 o[0] = = a | mov [rdi], rcx; ret | output 0 17 18

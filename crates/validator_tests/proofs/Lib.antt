@@ -1,0 +1,2 @@
+-- The lemmas of this crate, one subject a file.
+mod Again
