@@ -25,6 +25,11 @@ use Rattle.symbolic_values.proofs.Touches.{rm_fetched_touch, src_fetched_touch}
 pub made_later : {u : List Node} (t : List Node) (f : Form) → Prefix u t → Prefix u (made t f).table
 made_later t f p = prefix_trans p (made_prefix t f)
 
+-- and two forms after it
+pub two_later : {u : List Node} (t : List Node) (f g h : Form) → Prefix u (made t f).table
+    → Prefix u (made (made (made t f).table g).table h).table
+two_later t f g h p = let r = made t f in made_later (made r.table g).table h (made_later r.table g p)
+
 -- ---- steps that have made nothing yet
 
 pub arithmetic_part : (t : List Node) (y : Symbols) (dst : Option Reg) (f g : Form)
