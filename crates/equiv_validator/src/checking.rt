@@ -1,4 +1,5 @@
-ghost use Rattle.std.specs.Prelude.{◌≡◌, [], IfOk, OnOk};
+ghost use Rattle.std.specs.Prelude.{◌≡◌, [], IfOk, OnErr, OnOk};
+ghost use Rattle.terms.specs.Tables.{Prefix};
 ghost use Rattle.term_store.specs.Indexed.{joined_nodes};
 ghost use Rattle.symbolic_values.specs.Sources.{source_made};
 ghost use Rattle.equiv_validator.specs.Checks.{IsVerdict, SaysCorrect};
@@ -29,6 +30,8 @@ pub fn check_on(
     ensures verdict { IfOk result (IsVerdict prepared.entry.now listing.entry.now.lines) }
     ensures correct { IfOk result (SaysCorrect prepared.entry.now listing.entry.now.lines) }
     ensures table { OnOk result (joined_nodes tail.new ≡ (run_of prepared.entry.now listing.entry.now.lines).table) }
+    ensures part { OnErr result (Prefix (joined_nodes tail.new)
+        (run_of prepared.entry.now listing.entry.now.lines).table) }
 {
     let _ = listing.lines();
     let _ = prepared.program().params();

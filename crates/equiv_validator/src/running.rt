@@ -1,4 +1,4 @@
-ghost use Rattle.std.specs.Prelude.{◌≡◌, ◌+◌, ◌*◌, ◌-◌, ◌^◌, ◌<◌, ◌≤◌, [], length, IfOk};
+ghost use Rattle.std.specs.Prelude.{◌≡◌, ◌+◌, ◌*◌, ◌-◌, ◌^◌, ◌<◌, ◌≤◌, [], length, IfOk, OnErr};
 ghost use Rattle.base.specs.declared.limits.TheConstants.{MAX_LINES};
 ghost use Rattle.terms.specs.Tables.{Prefix};
 ghost use Rattle.term_store.specs.Indexed.{joined_nodes};
@@ -26,6 +26,8 @@ pub fn run<T: Interner>(
     requires fits { FitsTable (T.nodes store.now) state.now }
     ensures run { IfOk result (λ stuck. Ran stuck state.new (T.nodes store.new)
         (run_from 1 lines.entry.now (T.nodes store.old) state.old)) }
+    ensures part { OnErr result (Prefix (T.nodes store.new)
+        (run_from 1 lines.entry.now (T.nodes store.old) state.old).table) }
     ensures grows { Prefix (T.nodes store.old) (T.nodes store.new) }
 {
     let mut number = 1;
@@ -64,6 +66,8 @@ pub fn run_listing(
     requires empty { tail.now.own ≡ [] }
     ensures run { IfOk result (λ ending. IsEnding ending (joined_nodes tail.new)
         (run_of prepared.entry.now listing.entry.now.lines)) }
+    ensures part { OnErr result (Prefix (joined_nodes tail.new)
+        (run_of prepared.entry.now listing.entry.now.lines).table) }
     ensures shape { IfOk result (HasShapeAtEnd prepared.entry.now listing.entry.now.lines) }
 {
     let _ = prepared.program().params();

@@ -36,6 +36,7 @@ pub mod Forgetting
 pub mod StateFits
 pub mod Touches
 pub mod FormsFit
+pub mod StepParts
 pub mod StepRules
 pub mod StartLemmas
 pub mod StepFits

@@ -5,12 +5,17 @@ use Rattle.symbolic_values.proofs.StateFits.{fits_longer, node_of_below}
 use Rattle.symbolic_values.proofs.FormsFit.{address_fits, borrow1_fits, borrow2_fits, carry2_fits, carry3_fits}
 use Rattle.symbolic_values.proofs.FormsFit.{lin1_fits, node_below, sum2_fits, sum3_fits}
 use Rattle.symbolic_values.proofs.Touches.{cell_named_touch, rm_fetched_touch, src_fetched_touch, stored_touch}
+use Rattle.symbolic_values.proofs.StepParts.{arithmetic_part, bin_source, made_later, mov_source, only_part}
+use Rattle.symbolic_values.proofs.StepParts.{two_later}
 
 -- of the table after one form
 pub ruleset making = (prefix_refl, made_prefix, made_below, made_most)
 
 -- of a table that goes on
 pub ruleset growing = (prefix_refl, prefix_trans, prefix_length, fits_later)
+
+-- of a table with forms made one after the other
+pub ruleset several = (made_later, two_later)
 
 -- of the forms of a row
 pub ruleset fitting = (
@@ -25,6 +30,8 @@ pub ruleset fitting = (
   carry3_fits,
   borrow1_fits,
   borrow2_fits,
+  arithmetic_part,
+  only_part,
 )
 
 -- of words that are read and stored
@@ -39,4 +46,8 @@ pub ruleset fetching = (
   stored_touch,
   rm_fetched_touch,
   src_fetched_touch,
+  made_later,
+  only_part,
+  mov_source,
+  bin_source,
 )

@@ -94,7 +94,7 @@ module _ (t : List Node) (y : Symbols) where
 
   -- ---- results
 
-  extends_only : (dst : Reg) (f : Form) → Extends 3 t y (result_only dst f t y)
+  pub extends_only : (dst : Reg) (f : Form) → Extends 3 t y (result_only dst f t y)
   unfolding result_only
   extends_only dst f = extends_goes 3 t _ y _ (adds_on 1 0 3 t _ _ (omega arith) (adds_one t f) (adds_none 0 _))
       (same_written y (Some dst) (made t f).number y.cf y.of y.zf)
@@ -105,7 +105,7 @@ module _ (t : List Node) (y : Symbols) where
       adds_on 1 2 3 t r.table _ (omega arith) (adds_one t f)
       (adds_on 1 1 2 r.table c.table _ (omega arith) (adds_one r.table g) (adds_one c.table (forms.Zero r.number)))
 
-  extends_arithmetic : (dst : Option Reg) (f g : Form) → Extends 3 t y (arithmetic dst f g t y)
+  pub extends_arithmetic : (dst : Option Reg) (f g : Form) → Extends 3 t y (arithmetic dst f g t y)
   unfolding arithmetic
   extends_arithmetic dst f g = extends_goes 3 t _ y _ (adds_three f g) (same_written y dst (made t f).number _ _ _)
 
@@ -114,7 +114,7 @@ module _ (t : List Node) (y : Symbols) where
   extends_logic dst f = extends_goes 3 t _ y _ (adds_three f (forms.Const 0))
       (same_written y dst (made t f).number _ _ _)
 
-  extends_bin : (op : Bin) (dst : Reg) (d s : ℕ) → Extends 3 t y (bin_step op dst d s t y)
+  pub extends_bin : (op : Bin) (dst : Reg) (d s : ℕ) → Extends 3 t y (bin_step op dst d s t y)
   extends_bin Add dst d s = extends_arithmetic (Some dst) (sum (plus d ∷ plus s ∷ [])) (forms.Carry (d ∷ s ∷ []))
   extends_bin Adc dst d s = extends_flag y.cf
       (λ c. arithmetic (Some dst) (sum (plus d ∷ plus s ∷ plus c ∷ [])) (forms.Carry (d ∷ s ∷ c ∷ [])))
@@ -172,7 +172,7 @@ module _ (t : List Node) (y : Symbols) where
 
 -- ---- the other rows
 
-neg_extends : (t : List Node) (y : Symbols) (dst : Reg) (d : ℕ) → Extends 4 t y (neg_step dst d t y)
+pub neg_extends : (t : List Node) (y : Symbols) (dst : Reg) (d : ℕ) → Extends 4 t y (neg_step dst d t y)
 unfolding neg_step
 neg_extends t y dst d = let nought = made t (forms.Const 0) in
     extends_behind t y 1 3 4 nought.table y _ (omega arith) (adds_one t (forms.Const 0)) (λ program frame shape. shape)

@@ -32,6 +32,9 @@ impl SymState {
         requires inside { source < length (T.nodes store.now) }
         ensures step { IfOk result (λ moved. IsStep moved (steps.bin_step Add dst (symbols.node_in self.old dst) source
             (T.nodes store.old) (symbols.with_touch touch self.old)) (T.nodes store.new) self.old self.new) }
+        ensures part { OnErr result (Prefix (T.nodes store.new)
+            (steps.bin_step Add dst (symbols.node_in self.old dst) source (T.nodes store.old)
+            (symbols.with_touch touch self.old)).table) }
         ensures err { OnErr result (self.new ≡ self.old) }
         ensures grows { Prefix (T.nodes store.old) (T.nodes store.new) }
         ensures most { length (T.nodes store.new) ≤ length (T.nodes store.old) + 3 }
@@ -58,6 +61,9 @@ impl SymState {
         requires inside { source < length (T.nodes store.now) }
         ensures step { IfOk result (λ moved. IsStep moved (steps.bin_step Adc dst (symbols.node_in self.old dst) source
             (T.nodes store.old) (symbols.with_touch touch self.old)) (T.nodes store.new) self.old self.new) }
+        ensures part { OnErr result (Prefix (T.nodes store.new)
+            (steps.bin_step Adc dst (symbols.node_in self.old dst) source (T.nodes store.old)
+            (symbols.with_touch touch self.old)).table) }
         ensures err { OnErr result (self.new ≡ self.old) }
         ensures grows { Prefix (T.nodes store.old) (T.nodes store.new) }
         ensures most { length (T.nodes store.new) ≤ length (T.nodes store.old) + 3 }
@@ -87,6 +93,9 @@ impl SymState {
         requires inside { source < length (T.nodes store.now) }
         ensures step { IfOk result (λ moved. IsStep moved (steps.bin_step Sub dst (symbols.node_in self.old dst) source
             (T.nodes store.old) (symbols.with_touch touch self.old)) (T.nodes store.new) self.old self.new) }
+        ensures part { OnErr result (Prefix (T.nodes store.new)
+            (steps.bin_step Sub dst (symbols.node_in self.old dst) source (T.nodes store.old)
+            (symbols.with_touch touch self.old)).table) }
         ensures err { OnErr result (self.new ≡ self.old) }
         ensures grows { Prefix (T.nodes store.old) (T.nodes store.new) }
         ensures most { length (T.nodes store.new) ≤ length (T.nodes store.old) + 3 }
@@ -113,6 +122,9 @@ impl SymState {
         requires inside { source < length (T.nodes store.now) }
         ensures step { IfOk result (λ moved. IsStep moved (steps.bin_step Sbb dst (symbols.node_in self.old dst) source
             (T.nodes store.old) (symbols.with_touch touch self.old)) (T.nodes store.new) self.old self.new) }
+        ensures part { OnErr result (Prefix (T.nodes store.new)
+            (steps.bin_step Sbb dst (symbols.node_in self.old dst) source (T.nodes store.old)
+            (symbols.with_touch touch self.old)).table) }
         ensures err { OnErr result (self.new ≡ self.old) }
         ensures grows { Prefix (T.nodes store.old) (T.nodes store.new) }
         ensures most { length (T.nodes store.new) ≤ length (T.nodes store.old) + 3 }
@@ -142,6 +154,9 @@ impl SymState {
         requires inside { source < length (T.nodes store.now) }
         ensures step { IfOk result (λ moved. IsStep moved (steps.bin_step Cmp dst (symbols.node_in self.old dst) source
             (T.nodes store.old) (symbols.with_touch touch self.old)) (T.nodes store.new) self.old self.new) }
+        ensures part { OnErr result (Prefix (T.nodes store.new)
+            (steps.bin_step Cmp dst (symbols.node_in self.old dst) source (T.nodes store.old)
+            (symbols.with_touch touch self.old)).table) }
         ensures err { OnErr result (self.new ≡ self.old) }
         ensures grows { Prefix (T.nodes store.old) (T.nodes store.new) }
         ensures most { length (T.nodes store.new) ≤ length (T.nodes store.old) + 3 }
@@ -169,6 +184,9 @@ impl SymState {
         requires inside { source < length (T.nodes store.now) }
         ensures step { IfOk result (λ moved. IsStep moved (steps.bin_step op dst (symbols.node_in self.old dst) source
             (T.nodes store.old) (symbols.with_touch touch self.old)) (T.nodes store.new) self.old self.new) }
+        ensures part { OnErr result (Prefix (T.nodes store.new)
+            (steps.bin_step op dst (symbols.node_in self.old dst) source (T.nodes store.old)
+            (symbols.with_touch touch self.old)).table) }
         ensures err { OnErr result (self.new ≡ self.old) }
         ensures grows { Prefix (T.nodes store.old) (T.nodes store.new) }
         ensures most { length (T.nodes store.new) ≤ length (T.nodes store.old) + 3 }

@@ -40,6 +40,8 @@ impl SymState {
         requires fits { FitsTable (T.nodes store.now) self.now }
         ensures word { IfOk result (λ word. record { table = T.nodes store.new; word = word }
             ≡ steps.fetched_cell (T.nodes store.old) self.now mem) }
+        ensures part { OnErr result (Prefix (T.nodes store.new)
+            (steps.fetched_cell (T.nodes store.old) self.now mem).table) }
         ensures inside { IfOk result (λ word. IfSome word (λ w. w.node < length (T.nodes store.new))) }
         ensures grows { Prefix (T.nodes store.old) (T.nodes store.new) }
         ensures most { length (T.nodes store.new) ≤ length (T.nodes store.old) + 1 }
@@ -66,6 +68,8 @@ impl SymState {
         requires fits { FitsTable (T.nodes store.now) self.now }
         ensures word { IfOk result (λ word. record { table = T.nodes store.new; word = word }
             ≡ steps.rm_fetched (T.nodes store.old) self.now src) }
+        ensures part { OnErr result (Prefix (T.nodes store.new)
+            (steps.rm_fetched (T.nodes store.old) self.now src).table) }
         ensures inside { IfOk result (λ word. IfSome word (λ w. w.node < length (T.nodes store.new))) }
         ensures grows { Prefix (T.nodes store.old) (T.nodes store.new) }
         ensures most { length (T.nodes store.new) ≤ length (T.nodes store.old) + 1 }
@@ -90,6 +94,8 @@ impl SymState {
         requires fits { FitsTable (T.nodes store.now) self.now }
         ensures word { IfOk result (λ word. record { table = T.nodes store.new; word = word }
             ≡ steps.src_fetched (T.nodes store.old) self.now src) }
+        ensures part { OnErr result (Prefix (T.nodes store.new)
+            (steps.src_fetched (T.nodes store.old) self.now src).table) }
         ensures inside { IfOk result (λ word. IfSome word (λ w. w.node < length (T.nodes store.new))) }
         ensures grows { Prefix (T.nodes store.old) (T.nodes store.new) }
         ensures most { length (T.nodes store.new) ≤ length (T.nodes store.old) + 1 }
@@ -120,6 +126,8 @@ impl SymState {
         ensures step { IfOk result (λ moved. IsStep moved (steps.store_step (T.nodes store.old)
             (symbols.with_touch None self.old) mem (symbols.node_in self.old src)) (T.nodes store.new) self.old
             self.new) }
+        ensures part { OnErr result (Prefix (T.nodes store.new) (steps.store_step (T.nodes store.old)
+            (symbols.with_touch None self.old) mem (symbols.node_in self.old src)).table) }
         ensures err { OnErr result (self.new ≡ self.old) }
         ensures grows { Prefix (T.nodes store.old) (T.nodes store.new) }
         ensures most { length (T.nodes store.new) ≤ length (T.nodes store.old) + 1 }

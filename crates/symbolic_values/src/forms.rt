@@ -1,6 +1,6 @@
 //! The forms that steps make.
 
-ghost use Rattle.std.specs.Prelude.{◌≡◌, ◌+◌, ◌-◌, ◌^◌, ◌<◌, ◌≤◌, [], ◌∷◌, length, IfOk};
+ghost use Rattle.std.specs.Prelude.{◌≡◌, ◌+◌, ◌-◌, ◌^◌, ◌<◌, ◌≤◌, [], ◌∷◌, length, IfOk, OnErr};
 ghost use Rattle.terms.specs.declared.nodes.Form.TheVariants as forms;
 ghost use Rattle.terms.specs.Forms.{FormFits};
 ghost use Rattle.terms.specs.Tables.{Prefix};
@@ -21,6 +21,7 @@ pub fn make<T: Interner>(store: &mut T, form: Form) -> Result<u32, AllocError>
     requires fits { FormFits (T.nodes store.now) form }
     ensures ok { IfOk result (λ number. record { table = T.nodes store.new; number = number }
         ≡ made (T.nodes store.old) form) }
+    ensures part { OnErr result (Prefix (T.nodes store.new) (made (T.nodes store.old) form).table) }
     ensures inside { IfOk result (λ number. number < length (T.nodes store.new)) }
     ensures grows { Prefix (T.nodes store.old) (T.nodes store.new) }
     ensures most { length (T.nodes store.new) ≤ length (T.nodes store.old) + 1 }

@@ -16,7 +16,7 @@ use x86_instr::Reg;
 
 impl SymState {
     /// Writes a result, its carry, and whether it is 0.
-    #[tactic(auto, unfolding(crate::specs::Steps::arithmetic), using(crate::proofs::StepRules::growing))]
+    #[tactic(auto, unfolding(crate::specs::Steps::arithmetic), using(crate::proofs::StepRules::growing, crate::proofs::StepRules::several))]
     pub(crate) fn arithmetic<T: Interner>(
         &mut self,
         store: &mut T,
@@ -30,6 +30,9 @@ impl SymState {
         requires carry_fits { FormFits (T.nodes store.now) carry }
         ensures step { OnOk result (steps.goes (T.nodes store.new) self.new
             ≡ steps.arithmetic dst value carry (T.nodes store.old) (symbols.with_touch touch self.old)) }
+        ensures part { OnErr result (Prefix (T.nodes store.new)
+            (steps.arithmetic dst value carry (T.nodes store.old)
+            (symbols.with_touch touch self.old)).table) }
         ensures err { OnErr result (self.new ≡ self.old) }
         ensures grows { Prefix (T.nodes store.old) (T.nodes store.new) }
         ensures most { length (T.nodes store.new) ≤ length (T.nodes store.old) + 3 }
@@ -44,7 +47,7 @@ impl SymState {
     }
 
     /// Writes a result by bits, with 0 as its carry and overflow, and whether it is 0.
-    #[tactic(auto, unfolding(crate::specs::Steps::logic), using(crate::proofs::StepRules::growing))]
+    #[tactic(auto, unfolding(crate::specs::Steps::logic), using(crate::proofs::StepRules::growing, crate::proofs::StepRules::several))]
     pub(crate) fn logic<T: Interner>(
         &mut self,
         store: &mut T,
@@ -56,6 +59,8 @@ impl SymState {
         requires value_fits { FormFits (T.nodes store.now) value }
         ensures step { OnOk result (steps.goes (T.nodes store.new) self.new
             ≡ steps.logic dst value (T.nodes store.old) (symbols.with_touch touch self.old)) }
+        ensures part { OnErr result (Prefix (T.nodes store.new)
+            (steps.logic dst value (T.nodes store.old) (symbols.with_touch touch self.old)).table) }
         ensures err { OnErr result (self.new ≡ self.old) }
         ensures grows { Prefix (T.nodes store.old) (T.nodes store.new) }
         ensures most { length (T.nodes store.new) ≤ length (T.nodes store.old) + 3 }
@@ -82,6 +87,8 @@ impl SymState {
         requires value_fits { FormFits (T.nodes store.now) value }
         ensures step { OnOk result (steps.goes (T.nodes store.new) self.new
             ≡ steps.result_only dst value (T.nodes store.old) (symbols.with_touch touch self.old)) }
+        ensures part { OnErr result (Prefix (T.nodes store.new)
+            (steps.result_only dst value (T.nodes store.old) (symbols.with_touch touch self.old)).table) }
         ensures err { OnErr result (self.new ≡ self.old) }
         ensures grows { Prefix (T.nodes store.old) (T.nodes store.new) }
         ensures most { length (T.nodes store.new) ≤ length (T.nodes store.old) + 1 }
@@ -98,6 +105,8 @@ impl SymState {
         requires room { length (T.nodes store.now) ≤ 2 ^ 32 - 8 }
         ensures step { OnOk result (steps.goes (T.nodes store.new) self.new
             ≡ steps.clc_step (T.nodes store.old) (symbols.with_touch None self.old)) }
+        ensures part { OnErr result (Prefix (T.nodes store.new)
+            (steps.clc_step (T.nodes store.old) (symbols.with_touch None self.old)).table) }
         ensures err { OnErr result (self.new ≡ self.old) }
         ensures grows { Prefix (T.nodes store.old) (T.nodes store.new) }
         ensures most { length (T.nodes store.new) ≤ length (T.nodes store.old) + 1 }

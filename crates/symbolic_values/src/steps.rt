@@ -24,6 +24,9 @@ impl SymState {
         requires fits { FitsTable (T.nodes store.now) self.now }
         ensures step { IfOk result (λ moved. IsStep moved (steps.step_from (instrs.Mov dst src) (T.nodes store.old)
             (symbols.with_touch None self.old)) (T.nodes store.new) self.old self.new) }
+        ensures part { OnErr result (Prefix (T.nodes store.new)
+            (steps.step_from (instrs.Mov dst src) (T.nodes store.old)
+            (symbols.with_touch None self.old)).table) }
         ensures err { OnErr result (self.new ≡ self.old) }
         ensures grows { Prefix (T.nodes store.old) (T.nodes store.new) }
         ensures most { length (T.nodes store.new) ≤ length (T.nodes store.old) + 16 }
@@ -47,6 +50,9 @@ impl SymState {
         requires room { length (T.nodes store.now) ≤ 2 ^ 32 - 32 }
         ensures step { IfOk result (λ moved. IsStep moved (steps.step_from (instrs.MovImm dst imm) (T.nodes store.old)
             (symbols.with_touch None self.old)) (T.nodes store.new) self.old self.new) }
+        ensures part { OnErr result (Prefix (T.nodes store.new)
+            (steps.step_from (instrs.MovImm dst imm) (T.nodes store.old)
+            (symbols.with_touch None self.old)).table) }
         ensures err { OnErr result (self.new ≡ self.old) }
         ensures grows { Prefix (T.nodes store.old) (T.nodes store.new) }
         ensures most { length (T.nodes store.new) ≤ length (T.nodes store.old) + 16 }
@@ -64,6 +70,9 @@ impl SymState {
         requires fits { FitsTable (T.nodes store.now) self.now }
         ensures step { IfOk result (λ moved. IsStep moved (steps.step_from (instrs.Lea dst mem) (T.nodes store.old)
             (symbols.with_touch None self.old)) (T.nodes store.new) self.old self.new) }
+        ensures part { OnErr result (Prefix (T.nodes store.new)
+            (steps.step_from (instrs.Lea dst mem) (T.nodes store.old)
+            (symbols.with_touch None self.old)).table) }
         ensures err { OnErr result (self.new ≡ self.old) }
         ensures grows { Prefix (T.nodes store.old) (T.nodes store.new) }
         ensures most { length (T.nodes store.new) ≤ length (T.nodes store.old) + 16 }
@@ -86,6 +95,9 @@ impl SymState {
         requires fits { FitsTable (T.nodes store.now) self.now }
         ensures step { IfOk result (λ moved. IsStep moved (steps.step_from (instrs.Bin op dst src) (T.nodes store.old)
             (symbols.with_touch None self.old)) (T.nodes store.new) self.old self.new) }
+        ensures part { OnErr result (Prefix (T.nodes store.new)
+            (steps.step_from (instrs.Bin op dst src) (T.nodes store.old)
+            (symbols.with_touch None self.old)).table) }
         ensures err { OnErr result (self.new ≡ self.old) }
         ensures grows { Prefix (T.nodes store.old) (T.nodes store.new) }
         ensures most { length (T.nodes store.new) ≤ length (T.nodes store.old) + 16 }
@@ -103,6 +115,9 @@ impl SymState {
         requires fits { FitsTable (T.nodes store.now) self.now }
         ensures step { IfOk result (λ moved. IsStep moved (steps.step_from (instrs.Test a b) (T.nodes store.old)
             (symbols.with_touch None self.old)) (T.nodes store.new) self.old self.new) }
+        ensures part { OnErr result (Prefix (T.nodes store.new)
+            (steps.step_from (instrs.Test a b) (T.nodes store.old)
+            (symbols.with_touch None self.old)).table) }
         ensures err { OnErr result (self.new ≡ self.old) }
         ensures grows { Prefix (T.nodes store.old) (T.nodes store.new) }
         ensures most { length (T.nodes store.new) ≤ length (T.nodes store.old) + 16 }
@@ -119,6 +134,8 @@ impl SymState {
         requires room { length (T.nodes store.now) ≤ 2 ^ 32 - 32 }
         ensures step { IfOk result (λ moved. IsStep moved (steps.step_of instr.now (T.nodes store.old) self.old)
             (T.nodes store.new) self.old self.new) }
+        ensures part { OnErr result (Prefix (T.nodes store.new)
+            (steps.step_of instr.now (T.nodes store.old) self.old).table) }
         ensures err { OnErr result (self.new ≡ self.old) }
         ensures grows { Prefix (T.nodes store.old) (T.nodes store.new) }
         ensures most { length (T.nodes store.new) ≤ length (T.nodes store.old) + 16 }
@@ -147,6 +164,8 @@ impl SymState {
         requires room { length (T.nodes store.now) ≤ 2 ^ 32 - 32 }
         ensures step { IfOk result (λ moved. IsStep moved (steps.step_of line.now.instr (T.nodes store.old) self.old)
             (T.nodes store.new) self.old self.new) }
+        ensures part { OnErr result (Prefix (T.nodes store.new)
+            (steps.step_of line.now.instr (T.nodes store.old) self.old).table) }
         ensures err { OnErr result (self.new ≡ self.old) }
         ensures grows { Prefix (T.nodes store.old) (T.nodes store.new) }
         ensures most { length (T.nodes store.new) ≤ length (T.nodes store.old) + 16 }

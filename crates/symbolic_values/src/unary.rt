@@ -18,13 +18,16 @@ use x86_instr::{Reg, Un};
 
 impl SymState {
     /// `neg`
-    #[tactic(auto, unfolding(crate::specs::Steps::neg_step), using(crate::proofs::StepRules::fitting))]
+    #[tactic(auto, unfolding(crate::specs::Steps::neg_step), using(crate::proofs::StepRules::fitting, crate::proofs::StepParts::made_later))]
     fn negate<T: Interner>(&mut self, store: &mut T, dst: Reg) -> Result<(), AllocError>
         requires room { length (T.nodes store.now) ≤ 2 ^ 32 - 9 }
         requires fits { FitsTable (T.nodes store.now) self.now }
         ensures step { OnOk result (steps.goes (T.nodes store.new) self.new
             ≡ steps.neg_step dst (symbols.node_in self.old dst) (T.nodes store.old)
             (symbols.with_touch None self.old)) }
+        ensures part { OnErr result (Prefix (T.nodes store.new)
+            (steps.neg_step dst (symbols.node_in self.old dst) (T.nodes store.old)
+            (symbols.with_touch None self.old)).table) }
         ensures err { OnErr result (self.new ≡ self.old) }
         ensures grows { Prefix (T.nodes store.old) (T.nodes store.new) }
         ensures most { length (T.nodes store.new) ≤ length (T.nodes store.old) + 4 }
@@ -44,6 +47,9 @@ impl SymState {
         requires fits { FitsTable (T.nodes store.now) self.now }
         ensures step { OnOk result (steps.goes (T.nodes store.new) self.new ≡ steps.un_step Not dst
             (symbols.node_in self.old dst) (T.nodes store.old) (symbols.with_touch None self.old)) }
+        ensures part { OnErr result (Prefix (T.nodes store.new)
+            (steps.un_step Not dst (symbols.node_in self.old dst) (T.nodes store.old)
+            (symbols.with_touch None self.old)).table) }
         ensures err { OnErr result (self.new ≡ self.old) }
         ensures grows { Prefix (T.nodes store.old) (T.nodes store.new) }
         ensures most { length (T.nodes store.new) ≤ length (T.nodes store.old) + 4 }
@@ -64,6 +70,9 @@ impl SymState {
         requires fits { FitsTable (T.nodes store.now) self.now }
         ensures step { IfOk result (λ moved. IsStep moved (steps.un_step op dst (symbols.node_in self.old dst)
             (T.nodes store.old) (symbols.with_touch None self.old)) (T.nodes store.new) self.old self.new) }
+        ensures part { OnErr result (Prefix (T.nodes store.new)
+            (steps.un_step op dst (symbols.node_in self.old dst) (T.nodes store.old)
+            (symbols.with_touch None self.old)).table) }
         ensures err { OnErr result (self.new ≡ self.old) }
         ensures grows { Prefix (T.nodes store.old) (T.nodes store.new) }
         ensures most { length (T.nodes store.new) ≤ length (T.nodes store.old) + 4 }
