@@ -17,8 +17,7 @@ use Rattle.symbolic_values.proofs.Growing.{Grows, grows_more}
 use Rattle.symbolic_values.proofs.SourceTables.{few_start_forms}
 use Rattle.symbolic_values.proofs.ProgramNodes.{start_grows}
 use Rattle.symbolic_values.proofs.SourceStarts.{all_made_table}
-use Rattle.term_store.proofs.Made.{made_below, made_most, made_prefix}
-use Rattle.term_store.proofs.Prefixes.{prefix_refl}
+use Rattle.term_store.proofs.Made.{made_most}
 
 range_step : (a e : ℕ) → a < e → range_with_len a (e - a) ≡ a ∷ range_with_len (a + 1) (e - (a + 1))
 range_step a e h = let n : e - a ≡ suc (e - (a + 1)) = omega arith in rw n refl

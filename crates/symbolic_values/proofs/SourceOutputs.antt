@@ -2,11 +2,10 @@
 use Rattle.std.proofs.Common.{◌≡◌, ℕ, zero, suc, ◌+◌, ◌<◌, ◌≤◌, Bool, true, false, cond, List, [], ◌∷◌, ◌++◌, length}
 use Rattle.std.proofs.Common.{map, get_or, Option, Some, None, refl, sym, ap, ◌∙◌, subst, arith, ⊎_elim}
 use Rattle.std.specs.Prelude.{count_by, slice_get, slice_index, IsTrue, IsSomeAnd, if◌then◌else◌}
-use Rattle.std.specs.List.{All, position, position_or_len, range_with_len}
+use Rattle.std.specs.List.{position, position_or_len, range_with_len}
 use Rattle.std.specs.Option.{option_map_or}
 use Rattle.std.proofs.lemmas.Bool.{cases_lt, lt-ltb}
 use Rattle.std.proofs.lemmas.List.{get_or-map, length-append, map-append}
-use Rattle.std.proofs.lemmas.List.Elements.{All-append, All-cons, All-nil}
 use Rattle.std.proofs.lemmas.List.FromFn.{length-map-range_with_len}
 use Rattle.std.proofs.lemmas.List.Sums.{fails_before_first, sum_by-cons}
 use Rattle.word_program.specs.declared.parameter.Param.{Param}
@@ -20,7 +19,7 @@ use Rattle.word_program.specs.Accepted.{IsAccepted, IsOutputWord}
 use Rattle.terms.specs.Meaning.{Start}
 use Rattle.symbolic_values.specs.Sources.{IsRunOn, source_made, source_outputs}
 use Rattle.symbolic_values.proofs.SourceRows.{one_if}
-use Rattle.symbolic_values.proofs.ProgramNodes.{many_nodes, value_node}
+use Rattle.symbolic_values.proofs.ProgramNodes.{many_nodes}
 use Rattle.symbolic_values.proofs.SourceValues.{source_words}
 
 -- ---- the value that goes to an output word

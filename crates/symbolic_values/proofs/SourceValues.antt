@@ -1,5 +1,5 @@
 -- The nodes of a program's values have the words that the program computes.
-use Rattle.std.proofs.Common.{◌≡◌, ℕ, ◌*◌, ◌<◌, Bool, List, [], ◌∷◌, ◌++◌, length, map, refl, sym, ap, ◌∙◌, arith}
+use Rattle.std.proofs.Common.{◌≡◌, ℕ, ◌*◌, Bool, List, [], ◌∷◌, ◌++◌, length, map, refl, sym, ap, ◌∙◌, arith}
 use Rattle.std.specs.Prelude.{fold, slice_index}
 use Rattle.std.specs.List.{AllByRecursion}
 use Rattle.std.proofs.lemmas.List.{get_or-map, length-map, map-append}
@@ -10,7 +10,7 @@ use Rattle.word_program.specs.declared.operation.Operand.{Operand}
 use Rattle.word_program.specs.declared.operation.Operand.TheVariants as operands
 use Rattle.word_program.specs.Program.{Source}
 use Rattle.word_program.specs.Values.{AreWithin, input_bounds, input_word, is_bit_by, op_bits, op_words, operand_word}
-use Rattle.word_program.specs.Values.{targets_of, values_of, values_on}
+use Rattle.word_program.specs.Values.{values_of, values_on}
 use Rattle.word_program.specs.Accepted.{AreOps, IsAccepted, IsOp, IsOperand, IsParam}
 use Rattle.word_program.proofs.InputWords.{input_within}
 use Rattle.terms.specs.declared.nodes.Node.{Node}
@@ -26,7 +26,7 @@ use Rattle.symbolic_values.proofs.Growing.{all_made_values, nodes_later}
 use Rattle.symbolic_values.proofs.SourceRows.{row_grows}
 use Rattle.symbolic_values.proofs.SourceTables.{AreSourced, as_many_nodes, bounds_word, operand_grows, operand_nodes_of}
 use Rattle.symbolic_values.proofs.SourceTables.{operands_grow, operands_nodes, ops_grow, some_operand, step_sourced}
-use Rattle.symbolic_values.proofs.ProgramNodes.{at_start, many_nodes, start_sourced}
+use Rattle.symbolic_values.proofs.ProgramNodes.{at_start, start_sourced}
 use Rattle.symbolic_values.proofs.RowValues.{IsValued, row_values, valued_front}
 
 module _ (ps : List Param) (params : AllByRecursion IsParam ps) (inputs : List ℕ)

@@ -2,7 +2,7 @@
 -- address, the result, the carry, overflow and zero flags. A step is stuck where an address names no cell, where an
 -- unknown cell or flag is read, and where what is stored to is no output and no word of the frame; then no more than
 -- the constant and the address are made. Of the overflow flag nothing is known after additions and subtractions.
-use Rattle.std.specs.Prelude.{ℕ, ◌-◌, ◌^◌, ◌%◌, Bool, true, false, List, [], ◌∷◌, Option, Some, None, option_map}
+use Rattle.std.specs.Prelude.{ℕ, ◌-◌, ◌^◌, ◌%◌, true, false, List, [], ◌∷◌, Option, Some, None, option_map}
 use Rattle.std.specs.Int.{cast_unsigned, w64}
 use Rattle.base.specs.Options.{◌>>=◌, pick}
 use Rattle.x86_instr.specs.declared.operand.Mem.{Mem}
