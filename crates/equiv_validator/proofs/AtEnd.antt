@@ -14,6 +14,7 @@ use Rattle.x86_instr.specs.declared.line.Line.{Line}
 use Rattle.x86_instr.specs.Fits.{FitsLines}
 use Rattle.x86_instr.specs.Frame.{frame_of}
 use Rattle.terms.specs.declared.nodes.Node.{Node}
+use Rattle.terms.specs.Tables.{Prefix}
 use Rattle.term_store.specs.Indexed.{Joined, joined_nodes}
 use Rattle.symbolic_values.specs.Symbols.{Array, Symbols}
 use Rattle.symbolic_values.specs.Fitting.{HasShape, HaveShapes}
@@ -25,7 +26,7 @@ use Rattle.equiv_validator.specs.declared.verdict.Verdict.{Verdict}
 use Rattle.equiv_validator.specs.declared.verdict.Verdict.TheVariants.{Proved, Not}
 use Rattle.equiv_validator.specs.Checks.{IsVerdict, Ran, SaysCorrect}
 use Rattle.equiv_validator.specs.Runs.{Ended, Stuck, SymbolicRun, run_from, run_of}
-use Rattle.equiv_validator.proofs.Induction.{run_shape}
+use Rattle.equiv_validator.proofs.Induction.{run_prefix, run_shape}
 use Rattle.equiv_validator.proofs.ProvedCorrect.{proved_is_correct}
 
 -- ---- runs
@@ -93,6 +94,23 @@ ran_shape program lines j started frame y z table left found ran e g =
     (subst (λ (n : ℕ). HasShape program n y) ran.frame_is (subst (λ (p : Source). HasShape p frame y) ran.same ran.shape))
     (ap (λ (r : SymbolicRun). r.ending) (subst (λ (o : Option ℕ). Ran o z left (run_from 1 lines table y)) e g))
 
+-- a first part of the table that the code's run leaves is one of the run's
+pub ran_part : {u : List Node} (program : Source) (lines : List Line) (j : Joined) (started : Source) (frame : ℕ)
+    (y : Symbols) (table : List Node) → RanFrom program lines j started frame y table
+    → Prefix u (run_from 1 lines table y).table → Prefix u (run_of program lines).table
+ran_part {u} program lines j started frame y table ran p =
+    subst (λ (r : SymbolicRun). Prefix u r.table) (sym (ran_is program lines j started frame y table _ ran refl)) p
+
+-- the table before the run is one too
+pub start_part : (program : Source) (lines : List Line) (j : Joined) (table : List Node)
+    → j.base ≡ (source_made program).table → j.own ≡ [] → table ≡ joined_nodes j
+    → Prefix table (run_of program lines).table
+unfolding run_of
+start_part program lines j table e f is =
+    let t = (source_made program).table in
+    subst (λ (u : List Node). Prefix u (run_of program lines).table) (sym (is ∙ only_base program j e f))
+    (run_prefix lines 1 t (symbols_at_start t program (frame_of lines)))
+
 -- ---- outputs
 
 one_count : (role : Role) (words : List (Option ℕ)) (count : ℕ) → length words ≡ (if is_scalar role then 0 else count)
@@ -125,9 +143,9 @@ few_words (p ∷ ps) all =
     let rest = few_words ps all.1 in
     let most = all.0.words in
     few_if (is_output p.role) (length p.bounds) (output_count ps) (length ps) most rest where
-  few_if : (b : Bool) (n rest many : ℕ) → n ≤ 32 → rest ≤ 32 * many → (if b then n else 0) + rest ≤ 32 * suc many
-  few_if true n rest many h g = omega arith
-  few_if false n rest many h g = omega arith
+      few_if : (b : Bool) (n rest many : ℕ) → n ≤ 32 → rest ≤ 32 * many → (if b then n else 0) + rest ≤ 32 * suc many
+      few_if true n rest many h g = omega arith
+      few_if false n rest many h g = omega arith
 
 pub few_outputs : (program : Source) (nodes : List ℕ) → IsAccepted program → nodes ≡ source_outputs program
     → length nodes < 2 ^ 32

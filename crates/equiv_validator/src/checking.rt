@@ -44,11 +44,7 @@ pub fn check_on(
 /// Whether a listing is proved for a program, and else the first failure: a line that is stuck, then the first output
 /// word with another node, then the first saved register that is not restored, then the stack pointer. A proved
 /// listing is correct for the program. The one error is want of memory.
-pub fn check(
-    alloc: Global,
-    prepared: &Prepared,
-    listing: &Listing,
-) -> Result<Verdict, AllocError>
+pub fn check(alloc: Global, prepared: &Prepared, listing: &Listing) -> Result<Verdict, AllocError>
     ensures verdict { IfOk result (IsVerdict prepared.now listing.now.lines) }
     ensures correct { IfOk result (SaysCorrect prepared.now listing.now.lines) }
 {
