@@ -15,6 +15,7 @@ use Rattle.x86_instr.specs.declared.line.Line.{Line}
 use Rattle.x86_instr.specs.Fits.{FitsLines}
 use Rattle.x86_instr.specs.Frame.{frame_of}
 use Rattle.terms.specs.declared.nodes.Node.{Node}
+use Rattle.terms.specs.Tables.{Prefix}
 use Rattle.term_store.specs.Indexed.{Joined, joined_nodes}
 use Rattle.symbolic_values.specs.Symbols.{Array, Symbols}
 use Rattle.symbolic_values.specs.Fitting.{HasShape, HaveShapes}
@@ -26,7 +27,7 @@ use Rattle.equiv_validator.specs.declared.verdict.Verdict.{Verdict}
 use Rattle.equiv_validator.specs.declared.verdict.Verdict.TheVariants.{Proved, Not}
 use Rattle.equiv_validator.specs.Checks.{IsVerdict, Ran, SaysCorrect}
 use Rattle.equiv_validator.specs.Runs.{Ended, Stuck, SymbolicRun, run_from, run_of}
-use Rattle.equiv_validator.proofs.Induction.{run_shape}
+use Rattle.equiv_validator.proofs.Induction.{run_prefix, run_shape}
 use Rattle.equiv_validator.proofs.ProvedCorrect.{proved_is_correct}
 
 -- ---- runs
@@ -95,6 +96,23 @@ ran_shape program lines j started frame y z table left found ran e g =
     (subst (λ (n : ℕ). HasShape program n y) ran.frame_is (subst
     (λ (p : Source). HasShape p frame y) ran.same ran.shape))
     (ap (λ (r : SymbolicRun). r.ending) (subst (λ (o : Option ℕ). Ran o z left (run_from 1 lines table y)) e g))
+
+-- a first part of the table that the code's run leaves is one of the run's
+pub ran_part : {u : List Node} (program : Source) (lines : List Line) (j : Joined) (started : Source) (frame : ℕ)
+    (y : Symbols) (table : List Node) → RanFrom program lines j started frame y table
+    → Prefix u (run_from 1 lines table y).table → Prefix u (run_of program lines).table
+ran_part {u} program lines j started frame y table ran p =
+    subst (λ (r : SymbolicRun). Prefix u r.table) (sym (ran_is program lines j started frame y table _ ran refl)) p
+
+-- the table before the run is one too
+pub start_part : (program : Source) (lines : List Line) (j : Joined) (table : List Node)
+    → j.base ≡ (source_made program).table → j.own ≡ [] → table ≡ joined_nodes j
+    → Prefix table (run_of program lines).table
+unfolding run_of
+start_part program lines j table e f is =
+    let t = (source_made program).table in
+    subst (λ (u : List Node). Prefix u (run_of program lines).table) (sym (is ∙ only_base program j e f))
+    (run_prefix lines 1 t (symbols_at_start t program (frame_of lines)))
 
 -- ---- outputs
 

@@ -2,6 +2,9 @@
 -- agree all along.
 use Rattle.std.proofs.Common.{◌≡◌, ℕ, ◌+◌, Bool, true, false, List, [], ◌∷◌, Option, Some, None, refl, sym, ap, ◌∙◌}
 use Rattle.std.proofs.Common.{subst}
+use Rattle.std.proofs.Common.{◌<◌, drop, get_or, length, Result, Ok, Err}
+use Rattle.std.proofs.lemmas.List.{drop_more}
+use Rattle.std.specs.Prelude.{OnErr}
 use Rattle.std.specs.Prelude.{MatchOption, if◌then◌else◌}
 use Rattle.std.specs.Bool.{MatchBool}
 use Rattle.base.specs.Options.{pick}
@@ -19,23 +22,28 @@ use Rattle.x86_meaning.specs.Start.{IsStart}
 use Rattle.terms.specs.declared.nodes.Form.{Form}
 use Rattle.terms.specs.declared.nodes.Node.{Node}
 use Rattle.terms.specs.Grown.{IsGrown}
-use Rattle.terms.specs.Meaning.{IsSound, IsValuation, Start}
+use Rattle.terms.specs.Meaning.{IsSound, IsValuation}
 use Rattle.terms.specs.Tables.{IsTable, Prefix}
 use Rattle.symbolic_values.specs.Symbols.{Symbols}
 use Rattle.symbolic_values.specs.Fitting.{FitsTable, HasShape}
-use Rattle.symbolic_values.specs.Covering.{Agrees, Covers, Steps, start_of}
+use Rattle.symbolic_values.specs.Covering.{Agrees, start_of}
 use Rattle.symbolic_values.specs.Steps.{step_of}
 use Rattle.term_store.proofs.Prefixes.{prefix_refl, prefix_trans, sound_front, valuation_front}
 use Rattle.symbolic_values.proofs.Covered.{covers, step_fits, step_grown, step_table}
 use Rattle.symbolic_values.proofs.StepRows.{IsPlain}
 use Rattle.symbolic_values.proofs.StepTables.{step_prefix, step_shape}
-use Rattle.equiv_validator.specs.Runs.{Ending, Ended, Stuck, SymbolicRun, run_from}
+use Rattle.equiv_validator.specs.Runs.{Ended, Stuck, SymbolicRun, run_from}
 
 stuck_is_not_ended : (n : ℕ) (y : Symbols) → Stuck n ≡ Ended y → ⊥
 stuck_is_not_ended n y e = cc
 
 ended_inj : (y z : Symbols) → Ended y ≡ Ended z → y ≡ z
 ended_inj y z e = cc
+
+-- what is so, is so where there is an error
+pub on_err : {A E : Type 0} {P : Type 0} (r : Result A E) → P → OnErr r P
+on_err (Ok x) p = tt
+on_err (Err e) p = p
 
 -- by cases of a test
 by_ret : {A : Type 0} (P : A → Type 0) (b : Bool) (x y : A) → (b ≡ true → P x) → (b ≡ false → P y)
@@ -63,6 +71,35 @@ run_prefix (line ∷ more) n t y =
     (go_on n more (step_of line.instr t y).table (step_of line.instr t y).state) (λ _. prefix_refl t)
     (λ _. prefix_on n more t (step_of line.instr t y).table (step_of line.instr t y).state (step_prefix line.instr t y)
     (λ z. run_prefix more (n + 1) (step_of line.instr t y).table z))
+
+-- a first part of a step's table is one of the run's
+part_on : {u : List Node} (n : ℕ) (more : List Line) (t : List Node) (state : Option Symbols) → Prefix u t
+    → Prefix u (go_on n more t state).table
+part_on n more t None p = p
+part_on n more t (Some z) p = prefix_trans p (run_prefix more (n + 1) t z)
+
+true_is_not_false : true ≡ false → ⊥
+true_is_not_false e = cc
+
+line_part : {u : List Node} (line : Line) (more : List Line) (n : ℕ) (t : List Node) (y : Symbols)
+    → is_ret line.instr ≡ false → Prefix u (step_of line.instr t y).table
+    → Prefix u (run_from n (line ∷ more) t y).table
+line_part {u} line more n t y other p =
+    by_ret (λ (r : SymbolicRun). Prefix u r.table) (is_ret line.instr) (at_ret t y)
+    (go_on n more (step_of line.instr t y).table (step_of line.instr t y).state)
+    (λ yes. absurd (true_is_not_false (sym yes ∙ other)))
+    (λ _. part_on n more (step_of line.instr t y).table (step_of line.instr t y).state p)
+
+-- the same of a run of which the line that steps is next
+pub run_part : {u : List Node} (lines : List Line) (i n : ℕ) (line : Line) (t v : List Node) (y z : Symbols)
+    → i < length lines → line ≡ get_or lines i line → is_ret line.instr ≡ false
+    → run_from n (drop i lines) v z ≡ run_from 1 lines t y → Prefix u (step_of line.instr v z).table
+    → Prefix u (run_from 1 lines t y).table
+run_part {u} lines i n line t v y z inside is other same p =
+    subst (λ (r : SymbolicRun). Prefix u r.table)
+    (ap (λ (l : Line). run_from n (l ∷ drop (i + 1) lines) v z) is
+    ∙ sym (ap (λ (ls : List Line). run_from n ls v z) (drop_more lines i line inside)) ∙ same)
+    (line_part line (drop (i + 1) lines) n v z other p)
 
 -- a run keeps the shape of its states
 shape_on : (program : Source) (frame n : ℕ) (more : List Line) (u : List Node) (state : Option Symbols) (last : Symbols)

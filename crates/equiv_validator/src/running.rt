@@ -15,7 +15,8 @@ use term_store::{Interner, Tail};
 use x86_instr::{Line, Listing};
 
 /// Runs lines on a state and a table, from the first one to `ret`. The answer is the line, counted from 1, at which the
-/// run is stuck. The one error is want of memory.
+/// run is stuck. The one error is want of memory, after which the table is a first part of the one that the whole run
+/// leaves.
 pub fn run<T: Interner>(
     store: &mut T,
     state: &mut SymState,

@@ -3,7 +3,6 @@ use Rattle.std.proofs.Common.{ℕ, List, Option, Some, None, subst, sym}
 use Rattle.x86_instr.specs.declared.instr.Bin.{Bin}
 use Rattle.x86_instr.specs.declared.instr.Instr.TheVariants as instrs
 use Rattle.x86_instr.specs.declared.operand.Reg.{Reg}
-use Rattle.x86_instr.specs.declared.operand.Rm.{Rm}
 use Rattle.x86_instr.specs.declared.operand.Src.{Src}
 use Rattle.terms.specs.declared.nodes.Node.{Node}
 use Rattle.terms.specs.declared.nodes.Form.{Form}
@@ -11,11 +10,11 @@ use Rattle.terms.specs.Tables.{Prefix}
 use Rattle.term_store.specs.Interning.{made}
 use Rattle.term_store.proofs.Made.{made_prefix}
 use Rattle.term_store.proofs.Prefixes.{prefix_refl, prefix_trans}
-use Rattle.symbolic_values.specs.Symbols.{Symbols, node_in, with_node, with_touch}
-use Rattle.symbolic_values.specs.Steps.{Fetched, Step, Word, arithmetic, bin_step, goes}
-use Rattle.symbolic_values.specs.Steps.{on_source, result_only, rm_fetched, src_fetched, step_from}
+use Rattle.symbolic_values.specs.Symbols.{Symbols, node_in, with_touch}
+use Rattle.symbolic_values.specs.Steps.{Fetched, Step, Word, arithmetic, bin_step}
+use Rattle.symbolic_values.specs.Steps.{on_source, result_only, src_fetched, step_from}
 use Rattle.symbolic_values.proofs.StepTables.{extends_arithmetic, extends_bin, extends_only}
-use Rattle.symbolic_values.proofs.Touches.{rm_fetched_touch, src_fetched_touch}
+use Rattle.symbolic_values.proofs.Touches.{src_fetched_touch}
 
 -- ---- tables of forms made one after the other
 
@@ -45,13 +44,6 @@ source_on u y None rest f = prefix_refl u
 source_on u y (Some w) rest f = f w
 
 module _ {u : List Node} (t : List Node) (y : Symbols) (dst : Reg) where
-  pub mov_source : (src : Rm) → Prefix u (rm_fetched t y src).table
-      → Prefix u (step_from (instrs.Mov dst src) t (with_touch None y)).table
-  mov_source src p = let from = rm_fetched t (with_touch None y) src in prefix_trans
-      (subst (λ (o : Fetched). Prefix u o.table) (sym (rm_fetched_touch t y None src)) p)
-      (source_on from.table (with_touch None y) from.word (λ n v z. goes v (with_node dst n z))
-      (λ w. prefix_refl from.table))
-
   pub bin_source : (op : Bin) (src : Src) → Prefix u (src_fetched t y src).table
       → Prefix u (step_from (instrs.Bin op dst src) t (with_touch None y)).table
   bin_source op src p = let from = src_fetched t (with_touch None y) src in prefix_trans

@@ -5,8 +5,7 @@ use Rattle.symbolic_values.proofs.StateFits.{fits_longer, node_of_below}
 use Rattle.symbolic_values.proofs.FormsFit.{address_fits, borrow1_fits, borrow2_fits, carry2_fits, carry3_fits}
 use Rattle.symbolic_values.proofs.FormsFit.{lin1_fits, node_below, sum2_fits, sum3_fits}
 use Rattle.symbolic_values.proofs.Touches.{cell_named_touch, rm_fetched_touch, src_fetched_touch, stored_touch}
-use Rattle.symbolic_values.proofs.StepParts.{arithmetic_part, bin_source, made_later, mov_source, only_part}
-use Rattle.symbolic_values.proofs.StepParts.{two_later}
+use Rattle.symbolic_values.proofs.StepParts.{arithmetic_part, bin_source, made_later, only_part, two_later}
 
 -- of the table after one form
 pub ruleset making = (prefix_refl, made_prefix, made_below, made_most)
@@ -48,6 +47,5 @@ pub ruleset fetching = (
   src_fetched_touch,
   made_later,
   only_part,
-  mov_source,
   bin_source,
 )

@@ -172,7 +172,7 @@ module _ (t : List Node) (y : Symbols) where
 
 -- ---- the other rows
 
-pub neg_extends : (t : List Node) (y : Symbols) (dst : Reg) (d : ℕ) → Extends 4 t y (neg_step dst d t y)
+neg_extends : (t : List Node) (y : Symbols) (dst : Reg) (d : ℕ) → Extends 4 t y (neg_step dst d t y)
 unfolding neg_step
 neg_extends t y dst d = let nought = made t (forms.Const 0) in
     extends_behind t y 1 3 4 nought.table y _ (omega arith) (adds_one t (forms.Const 0)) (λ program frame shape. shape)

@@ -157,8 +157,8 @@ impl SymState {
 
     /// Steps over the instruction of a line. Stuck exactly where the instruction reads an unknown flag or word, reads
     /// or writes what is no known cell, or is none of those that are known here; the state is then unchanged. The one
-    /// error is want of memory, which leaves the state unchanged too. In every case the table goes on, by at most 16
-    /// nodes, and the state fits it.
+    /// error is want of memory, which leaves the state unchanged too; the table is then a first part of the one that
+    /// the whole step would leave. In every case the table goes on, by at most 16 nodes, and the state fits it.
     pub fn sym_step<T: Interner>(&mut self, store: &mut T, line: &Line) -> Result<Moved, AllocError>
         requires fits { FitsTable (T.nodes store.now) self.now }
         requires room { length (T.nodes store.now) ≤ 2 ^ 32 - 32 }
