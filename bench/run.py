@@ -12,6 +12,7 @@ import sys
 import tempfile
 import time
 
+import chains
 import listings
 import programs
 
@@ -38,6 +39,8 @@ ROWS = [
     ("show", "one_comment.s"),
     ("emulate", "lines.s"),
     ("emulate", "comments.s"),
+    ("check", "chain_107.s"),
+    ("check", "chain_2048.s"),
 ]
 
 
@@ -51,6 +54,8 @@ def words(command, folder, file):
         return ["show", path]
     if command == "emulate":
         return ["emulate", copy, path, "--in", inputs_of(copy)]
+    if command == "check":
+        return ["check", path.replace(".s", ".json"), path]
     raise SystemExit(f"no words are known for {command}")
 
 
@@ -92,6 +97,7 @@ def main(arguments):
     with tempfile.TemporaryDirectory() as folder:
         programs.main(folder)
         listings.main(folder)
+        chains.main(folder)
         for command, file in ROWS:
             if not chosen or any(word in f"{command} {file}" for word in chosen):
                 print("| " + " | ".join(row(program, folder, command, file)) + " |", flush=True)
