@@ -64,6 +64,20 @@ pub record RanFrom (program : Source) (lines : List Line) (j : Joined) (started 
   pub state_is : y ≡ symbols_at_start (joined_nodes j) started frame
   pub shape : HasShape started frame y
 
+pub ran_from : {program : Source} {lines : List Line} {j : Joined} {started : Source} {frame : ℕ} {y : Symbols}
+    {table : List Node} → j.base ≡ (source_made program).table → j.own ≡ [] → started ≡ program → frame ≡ frame_of lines
+    → table ≡ joined_nodes j → y ≡ symbols_at_start (joined_nodes j) started frame → HasShape started frame y
+    → RanFrom program lines j started frame y table
+ran_from base own same frame_is table_is state_is shape = record {
+  base = base;
+  own = own;
+  same = same;
+  frame_is = frame_is;
+  table_is = table_is;
+  state_is = state_is;
+  shape = shape;
+}
+
 ran_is : (program : Source) (lines : List Line) (j : Joined) (started : Source) (frame : ℕ) (y : Symbols)
     (table : List Node) (r : SymbolicRun) → RanFrom program lines j started frame y table → run_from 1 lines table y ≡ r
     → run_of program lines ≡ r

@@ -2,8 +2,7 @@
 -- and with the start of each preserved register (System V AMD64 psABI, section 3.2.1) in that register. And why it is
 -- not: the first failure, in this order.
 use Rattle.std.specs.Prelude.{◌≡◌, ◌≢◌, ℕ, Bool, true, false, not, ◌==◌, List, [], ◌∷◌, map, take, find, Option, Some}
-use Rattle.std.specs.Prelude.{None}
-use Rattle.std.specs.Prelude.{slice_get}
+use Rattle.std.specs.Prelude.{None, slice_get}
 use Rattle.word_program.specs.Program.{Source}
 use Rattle.x86_instr.specs.declared.line.Line.{Line}
 use Rattle.x86_instr.specs.declared.operand.Reg.{Reg}

@@ -1,7 +1,6 @@
 ghost use Rattle.std.specs.Prelude.{◌≡◌, IfOk};
 ghost use Rattle.std.specs.Arc.{arc_value};
 ghost use Rattle.symbolic_values.specs.Sources.{source_made, source_outputs};
-ghost use Rattle.word_program.specs.Accepted.{IsAccepted};
 
 use std::alloc::{AllocError, Global};
 use std::marker::Model;
