@@ -60,6 +60,10 @@ impl Nodes for Store {
 }
 
 impl Interner for Store {
+    ghost use Rattle.std.specs.Prelude.{[]};
+
+    ghost fixed = { λ s. [] };
+
     /// The number of a node: that of the table's own where it has it, else the next one.
     fn intern(&mut self, node: Node) -> Result<u32, AllocError> {
         if let Some(place) = self.find(&node) {

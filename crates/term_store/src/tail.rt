@@ -88,6 +88,8 @@ impl<'a> Nodes for Tail<'a> {
 }
 
 impl<'a> Interner for Tail<'a> {
+    ghost fixed = { λ s. s.base };
+
     /// The number of a node: that of the store's or the tail's where one has it, else the next one, in the tail.
     fn intern(&mut self, node: Node) -> Result<u32, AllocError> {
         if let Some(place) = self.find(&node) {
