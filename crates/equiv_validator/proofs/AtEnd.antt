@@ -17,12 +17,13 @@ use Rattle.x86_instr.specs.Frame.{frame_of}
 use Rattle.terms.specs.declared.nodes.Node.{Node}
 use Rattle.terms.specs.Tables.{Prefix}
 use Rattle.term_store.specs.Indexed.{Joined, joined_nodes}
-use Rattle.symbolic_values.specs.Symbols.{Array, Symbols}
-use Rattle.symbolic_values.specs.Fitting.{HasShape, HaveShapes}
-use Rattle.symbolic_values.specs.Sources.{source_made, source_outputs, symbols_at_start}
-use Rattle.symbolic_values.specs.Written.{words_written}
-use Rattle.symbolic_values.proofs.ProgramNodes.{source_few}
-use Rattle.symbolic_values.proofs.SourceOutputs.{many_outputs}
+use Rattle.symbolic_state.specs.Symbols.{Array, Symbols}
+use Rattle.symbolic_state.specs.Fitting.{HasShape, HaveShapes}
+use Rattle.program_nodes.specs.Sources.{source_made, source_outputs}
+use Rattle.symbolic_state.specs.Starts.{symbols_at_start}
+use Rattle.symbolic_state.specs.Written.{words_written}
+use Rattle.program_nodes.proofs.ProgramNodes.{source_few}
+use Rattle.program_nodes.proofs.SourceOutputs.{many_outputs}
 use Rattle.equiv_validator.specs.declared.verdict.Verdict.{Verdict}
 use Rattle.equiv_validator.specs.declared.verdict.Verdict.TheVariants.{Proved, Not}
 use Rattle.equiv_validator.specs.Checks.{IsVerdict, Ran, SaysCorrect}
@@ -179,3 +180,6 @@ pub correct_is : (program : Source) (lines : List Line) (verdict : Verdict) → 
     → IsVerdict program lines verdict → SaysCorrect program lines verdict
 correct_is program lines (Proved proof) accepted fit is = proved_is_correct program accepted lines fit is
 correct_is program lines (Not why) accepted fit is = tt
+
+-- what the code of the check wants
+pub ruleset verdicts = (same_length, few_outputs, correct_is)

@@ -24,9 +24,9 @@ use Rattle.terms.specs.declared.nodes.Node.{Node}
 use Rattle.terms.specs.Grown.{IsGrown}
 use Rattle.terms.specs.Meaning.{IsSound, IsValuation}
 use Rattle.terms.specs.Tables.{IsTable, Prefix}
-use Rattle.symbolic_values.specs.Symbols.{Symbols}
-use Rattle.symbolic_values.specs.Fitting.{FitsTable, HasShape}
-use Rattle.symbolic_values.specs.Covering.{Agrees, start_of}
+use Rattle.symbolic_state.specs.Symbols.{Symbols}
+use Rattle.symbolic_state.specs.Fitting.{FitsTable, HasShape}
+use Rattle.symbolic_state.specs.Agreeing.{Agrees, start_of}
 use Rattle.symbolic_values.specs.Steps.{step_of}
 use Rattle.term_store.proofs.Prefixes.{prefix_refl, prefix_trans, sound_front, valuation_front}
 use Rattle.symbolic_values.proofs.Covered.{covers, step_fits, step_grown, step_table}
@@ -129,17 +129,16 @@ module _ (P : Form → Type 0) (plain : (f : Form) → IsPlain f → P f) where
   grown_on n more u None o g rest = (o, g)
   grown_on n more u (Some z) o g rest = rest z refl
 
-  pub run_grown : (lines : List Line) (n : ℕ) (t : List Node) (y : Symbols) → IsTable t → FitsTable t y → IsGrown P t
-      → IsTable (run_from n lines t y).table × IsGrown P (run_from n lines t y).table
-  run_grown [] n t y o f g = (o, g)
-  run_grown (line ∷ more) n t y o f g =
-      let next = step_of line.instr t y in
+  pub run_grown : (lines : List Line) (n : ℕ) (t : List Node) (y : Symbols) → FitsLines lines → IsTable t
+      → FitsTable t y → IsGrown P t → IsTable (run_from n lines t y).table × IsGrown P (run_from n lines t y).table
+  run_grown [] n t y l o f g = (o, g)
+  run_grown (line ∷ more) n t y l o f g =
       by_ret (λ (r : SymbolicRun). IsTable r.table × IsGrown P r.table) (is_ret line.instr) (at_ret t y)
       (go_on n more (step_of line.instr t y).table (step_of line.instr t y).state) (λ _. (o, g))
       (λ _. grown_on n more (step_of line.instr t y).table (step_of line.instr t y).state
-      (step_table line.instr t y o f) (step_grown line.instr t y o f P plain g)
-      (λ z q. run_grown more (n + 1) (step_of line.instr t y).table z (step_table line.instr t y o f)
-      (step_fits line.instr t y o f z q) (step_grown line.instr t y o f P plain g)))
+      (step_table line.instr t y l.0 o f) (step_grown line.instr t y l.0 o f P plain g)
+      (λ z q. run_grown more (n + 1) (step_of line.instr t y).table z l.2 (step_table line.instr t y l.0 o f)
+      (step_fits line.instr t y l.0 o f z q) (step_grown line.instr t y l.0 o f P plain g)))
 
 module _ (program : Source) (lines : List Line) (inputs : List ℕ) (first : State)
     (begins : IsStart program lines inputs first) (val : ℕ → ℕ) (T : List Node)
@@ -174,7 +173,7 @@ module _ (program : Source) (lines : List Line) (inputs : List ℕ) (first : Sta
         (valuation_front front valued)
         (sound_front front sound) a in
         subst (λ (found : Option State). MatchOption found ⊥ (λ u. Runs Kept Q more u)) (sym c.goes)
-        (rest z c.next l (step_table i t y o f) (step_fits i t y o f z q)
+        (rest z c.next l (step_table i t y g o f) (step_fits i t y g o f z q)
         (step_shape program (frame_of lines) i t y z h q) p c.agrees e)
 
     on_ret : (i : Instr) (more : List Line) (n : ℕ) (t : List Node) (y : Symbols) (s : State) → FitsInstr i

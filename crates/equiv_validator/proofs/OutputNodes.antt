@@ -1,5 +1,5 @@
 -- Where the words that a symbolic state knows of all outputs are the program's nodes, each word of each output is.
-use Rattle.std.proofs.Common.{◌≡◌, ℕ, zero, suc, ◌+◌, ◌<◌, Bool, true, false, List, [], ◌∷◌, ◌++◌, length, map, take}
+use Rattle.std.proofs.Common.{◌≡◌, ℕ, zero, suc, ◌+◌, ◌<◌, true, List, [], ◌∷◌, ◌++◌, length, map, take}
 use Rattle.std.proofs.Common.{drop}
 use Rattle.std.proofs.Common.{Option, Some, None, refl, sym, ap, ◌∙◌, subst, option_map, arith}
 use Rattle.std.specs.Prelude.{slice_get, if◌then◌else◌}
@@ -14,9 +14,9 @@ use Rattle.word_program.specs.declared.parameter.Param.{Param}
 use Rattle.word_program.specs.declared.parameter.Role.{Role}
 use Rattle.word_program.specs.declared.parameter.Role.TheVariants.{Output, InputArray, InputScalar}
 use Rattle.word_program.specs.Values.{is_output, is_scalar, outputs_from, stored_word}
-use Rattle.symbolic_values.specs.Symbols.{Array}
-use Rattle.symbolic_values.specs.Cells.{known}
-use Rattle.symbolic_values.specs.Fitting.{HaveShapes}
+use Rattle.symbolic_state.specs.Symbols.{Array}
+use Rattle.symbolic_state.specs.Cells.{known}
+use Rattle.symbolic_state.specs.Fitting.{HaveShapes}
 
 none_is_some : {A : Type 0} (x : A) → None ≡ Some x → ⊥
 none_is_some x e = cc

@@ -1,54 +1,49 @@
 -- A proved listing is correct.
-use Rattle.std.proofs.Common.{◌≡◌, ℕ, zero, suc, ◌+◌, ◌^◌, ◌<◌, ◌≤◌, Bool, true, false, List, [], ◌∷◌, Option, Some}
-use Rattle.std.proofs.Common.{get_or, refl, sym, ap, ◌∙◌, subst}
+use Rattle.std.proofs.Common.{◌≡◌, ℕ, ◌<◌, Bool, true, false, List, [], ◌∷◌, Option, Some}
+use Rattle.std.proofs.Common.{refl, sym, ap, ◌∙◌, subst}
 use Rattle.std.proofs.Common.{length, None, arith}
 use Rattle.std.specs.Option.{option_map_or}
 use Rattle.std.proofs.lemmas.Bool.Decides.{nat_tests}
 use Rattle.base.proofs.Arithmetic.{not_below_zero}
-use Rattle.std.specs.Prelude.{slice_get, slice_index, find, not, if◌then◌else◌, IsSomeAnd, IsTrue}
+use Rattle.std.specs.Prelude.{slice_get, find, not, if◌then◌else◌, IsSomeAnd, IsTrue}
 use Rattle.std.specs.List.{AllByRecursion}
 use Rattle.std.specs.FinMap as map
-use Rattle.base.specs.Options.{◌>>=◌}
 use Rattle.word_program.specs.Accepted.{IsAccepted, IsOutputWord}
 use Rattle.word_program.specs.declared.parameter.Param.{Param}
 use Rattle.word_program.specs.Program.{Source}
-use Rattle.word_program.specs.Values.{input_word, is_output, output_word, stored_word, targets_of}
+use Rattle.word_program.specs.Values.{is_output, output_word, stored_word, targets_of}
 use Rattle.x86_instr.specs.declared.line.Line.{Line}
 use Rattle.x86_instr.specs.declared.operand.Reg.{Reg}
-use Rattle.x86_instr.specs.declared.operand.Reg.TheVariants.{Rax, Rcx, Rdx, Rbx, Rsp, Rbp, Rsi, Rdi, R8, R9}
-use Rattle.x86_instr.specs.declared.operand.Reg.TheVariants.{R10, R11, R12, R13, R14, R15}
+use Rattle.x86_instr.specs.declared.operand.Reg.TheVariants.{Rbx, Rsp, Rbp}
+use Rattle.x86_instr.specs.declared.operand.Reg.TheVariants.{R12, R13, R14, R15}
 use Rattle.x86_instr.specs.Fits.{FitsLines}
 use Rattle.x86_instr.specs.Frame.{frame_of}
 use Rattle.x86_instr.specs.Registers.{number_of}
 use Rattle.x86_meaning.specs.declared.state.State.{State}
-use Rattle.x86_meaning.specs.Correct.{IsCorrect, Returns, preserved}
-use Rattle.x86_meaning.specs.Machine.{IsState, reg}
+use Rattle.x86_meaning.specs.Correct.{IsCorrect, Returns}
+use Rattle.x86_meaning.specs.Machine.{reg}
 use Rattle.x86_meaning.specs.Start.{Array, IsStart, address_of, output_words}
 use Rattle.terms.specs.declared.nodes.Node.{Node}
 use Rattle.terms.specs.declared.nodes.Form.{Form}
-use Rattle.terms.specs.Grown.{IsGrown}
-use Rattle.terms.specs.Meaning.{Admits, IsSound, IsValuation, Start, node_value}
-use Rattle.terms.specs.Tables.{IsTable, Prefix}
-use Rattle.x86_instr.specs.declared.instr.Instr.{Instr}
-use Rattle.symbolic_values.specs.Symbols.{Symbols, node_in}
-use Rattle.symbolic_values.specs.Cells.{known}
-use Rattle.symbolic_values.specs.Covering.{Agrees, Covers, start_of}
-use Rattle.symbolic_values.specs.Fitting.{FitsTable, HasShape, IsProgramForm}
-use Rattle.symbolic_values.specs.Sources.{source_made, source_outputs, symbols_at_start}
-use Rattle.symbolic_values.specs.Steps.{step_of}
-use Rattle.symbolic_values.specs.Written.{words_written}
+use Rattle.terms.specs.Meaning.{IsSound, IsValuation, node_value}
+use Rattle.symbolic_state.specs.Symbols.{Symbols, node_in}
+use Rattle.symbolic_state.specs.Agreeing.{Agrees, start_of}
+use Rattle.symbolic_state.specs.Fitting.{HasShape}
+use Rattle.program_nodes.specs.Operands.{IsProgramForm}
+use Rattle.program_nodes.specs.Sources.{source_made, source_outputs}
+use Rattle.symbolic_state.specs.Starts.{symbols_at_start}
 use Rattle.terms.specs.declared.nodes.Form.TheVariants as forms
 use Rattle.term_store.proofs.Growth.{grown_sound}
 use Rattle.term_store.proofs.Prefixes.{prefix_refl, sound_front, valuation_front}
 use Rattle.term_store.proofs.Values.{valuation}
-use Rattle.symbolic_values.specs.Sources.{IsRunOn}
-use Rattle.symbolic_values.proofs.AtStart.{start_shape}
-use Rattle.symbolic_values.proofs.StartsAgree.{start_admits, start_agrees, start_fits}
+use Rattle.program_nodes.specs.Sources.{IsRunOn}
+use Rattle.symbolic_state.proofs.AtStart.{start_shape}
+use Rattle.symbolic_state.proofs.StartsAgree.{start_admits, start_agrees, start_fits}
 use Rattle.symbolic_values.proofs.StepRows.{IsPlain}
-use Rattle.symbolic_values.proofs.ProgramNodes.{source_grown, source_table}
-use Rattle.symbolic_values.proofs.SourceOutputs.{stored_value}
-use Rattle.symbolic_values.proofs.LaterTables.{number_below}
-use Rattle.symbolic_values.proofs.StartValues.{start_value}
+use Rattle.program_nodes.proofs.ProgramNodes.{source_grown, source_table}
+use Rattle.program_nodes.proofs.SourceOutputs.{stored_value}
+use Rattle.symbolic_state.proofs.LaterTables.{number_below}
+use Rattle.program_nodes.proofs.StartValues.{start_value}
 use Rattle.equiv_validator.specs.Checks.{HasOutputs, IsProved, is_restored, lost_register, saved}
 use Rattle.equiv_validator.specs.Runs.{run_from, run_of}
 use Rattle.equiv_validator.proofs.Induction.{run_grown, run_prefix, runs}
@@ -173,7 +168,7 @@ module _ (program : Source) (accepted : IsAccepted program) where
         let fits = start_fits program accepted T0 (prefix_refl T0) (frame_of lines) in
         let table = source_table program accepted in
         let grown = run_grown (IsProgramForm program.params) plain_forms lines 1 T0
-        (symbols_at_start T0 program (frame_of lines)) table fits (source_grown program accepted) in
+        (symbols_at_start T0 program (frame_of lines)) fit table fits (source_grown program accepted) in
         let valued = valuation start T grown.0 in
         let sound = grown_sound (IsProgramForm program.params) start val T grown.0 grown.1
         (start_admits program accepted lines inputs first begins) valued in

@@ -10,9 +10,9 @@ use Rattle.x86_instr.specs.declared.operand.Reg.TheVariants.{Rbx, Rbp, Rsp, R12,
 use Rattle.x86_instr.specs.Registers.{number_of}
 use Rattle.x86_meaning.specs.Correct.{IsCorrect}
 use Rattle.terms.specs.declared.nodes.Node.{Node}
-use Rattle.symbolic_values.specs.Symbols.{Symbols, node_in}
-use Rattle.symbolic_values.specs.Sources.{source_outputs}
-use Rattle.symbolic_values.specs.Written.{words_written}
+use Rattle.symbolic_state.specs.Symbols.{Symbols, node_in}
+use Rattle.program_nodes.specs.Sources.{source_outputs}
+use Rattle.symbolic_state.specs.Written.{words_written}
 use Rattle.equiv_validator.specs.declared.verdict.Verdict.{Verdict}
 use Rattle.equiv_validator.specs.declared.verdict.Verdict.TheVariants.{Proved, Not}
 use Rattle.equiv_validator.specs.declared.verdict.Why.{Why}

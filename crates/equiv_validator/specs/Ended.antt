@@ -4,7 +4,7 @@ use Rattle.word_program.specs.Program.{Source}
 use Rattle.x86_instr.specs.declared.line.Line.{Line}
 use Rattle.x86_instr.specs.Frame.{frame_of}
 use Rattle.terms.specs.declared.nodes.Node.{Node}
-use Rattle.symbolic_values.specs.Fitting.{HasShape}
+use Rattle.symbolic_state.specs.Fitting.{HasShape}
 use Rattle.equiv_validator.specs.declared.running.Ending.{Ending}
 use Rattle.equiv_validator.specs.declared.running.Ending.TheVariants as endings
 use Rattle.equiv_validator.specs.Runs.{Ended, Stuck, SymbolicRun}

@@ -1,15 +1,16 @@
 -- The symbolic run of a listing for a program: on the table of the program's nodes, from the symbolic state at the
 -- start, step by step to `ret`.
-use Rattle.std.specs.Prelude.{ℕ, ◌+◌, List, [], ◌∷◌, Option, Some, None, if◌then◌else◌}
+use Rattle.std.specs.Prelude.{ℕ, ◌+◌, List, [], ◌∷◌, if◌then◌else◌}
 use Rattle.base.specs.Options.{pick}
 use Rattle.word_program.specs.Program.{Source}
 use Rattle.x86_instr.specs.declared.line.Line.{Line}
 use Rattle.x86_instr.specs.Frame.{frame_of}
 use Rattle.x86_instr.specs.Listings.{is_ret}
 use Rattle.terms.specs.declared.nodes.Node.{Node}
-use Rattle.symbolic_values.specs.Symbols.{Symbols}
-use Rattle.symbolic_values.specs.Sources.{source_made, symbols_at_start}
-use Rattle.symbolic_values.specs.Steps.{Step, step_of}
+use Rattle.symbolic_state.specs.Symbols.{Symbols}
+use Rattle.program_nodes.specs.Sources.{source_made}
+use Rattle.symbolic_state.specs.Starts.{symbols_at_start}
+use Rattle.symbolic_values.specs.Steps.{step_of}
 
 -- how a symbolic run ends: at `ret` in a state, or stuck at a line, counted from 1
 pub data Ending : Type 0 where

@@ -1,7 +1,7 @@
 ghost use Rattle.std.specs.Prelude.{◌≡◌, [], IfOk, OnErr, OnOk};
 ghost use Rattle.terms.specs.Tables.{Prefix};
 ghost use Rattle.term_store.specs.Indexed.{joined_nodes};
-ghost use Rattle.symbolic_values.specs.Sources.{source_made};
+ghost use Rattle.program_nodes.specs.Sources.{source_made};
 ghost use Rattle.equiv_validator.specs.Checks.{IsVerdict, SaysCorrect};
 ghost use Rattle.equiv_validator.specs.Runs.{run_of};
 
@@ -17,8 +17,8 @@ use x86_instr::Listing;
 /// a tail over the program's nodes, which has none of its own before. A tail that is cleared keeps its room.
 ///
 /// The tail's table is then the one that the symbolic run leaves. The one error is want of memory, after which it is a
-/// first part of that table.
-#[tactic(auto, using(crate::proofs::AtEnd::same_length, crate::proofs::AtEnd::few_outputs, crate::proofs::AtEnd::correct_is))]
+/// first part of that table. In either case the tail is ready for the next listing once it is cleared.
+#[tactic(auto, using(crate::proofs::AtEnd::verdicts))]
 pub fn check_on(
     alloc: Global,
     prepared: &Prepared,
@@ -32,6 +32,7 @@ pub fn check_on(
     ensures table { OnOk result (joined_nodes tail.new ≡ (run_of prepared.entry.now listing.entry.now.lines).table) }
     ensures part { OnErr result (Prefix (joined_nodes tail.new)
         (run_of prepared.entry.now listing.entry.now.lines).table) }
+    ensures base { tail.new.base ≡ tail.old.base }
 {
     let _ = listing.lines();
     let _ = prepared.program().params();

@@ -1,9 +1,9 @@
 ghost use Rattle.std.specs.Prelude.{◌≡◌, ◌↔◌, ◌^◌, ◌<◌, length, Some, MatchOption, IsTrue};
-ghost use Rattle.symbolic_values.specs.Written.{words_written};
+ghost use Rattle.symbolic_state.specs.Written.{words_written};
 ghost use Rattle.equiv_validator.specs.Checks as spec;
 
 use crate::verdict::{Proof, Verdict, Why};
-use symbolic_values::SymState;
+use symbolic_state::SymState;
 use x86_instr::Reg;
 
 /// The registers, other than the stack pointer, that a function gives back as it found them.

@@ -1,11 +1,11 @@
 ghost use Rattle.std.specs.Prelude.{◌≡◌, IfOk};
 ghost use Rattle.std.specs.Arc.{arc_value};
-ghost use Rattle.symbolic_values.specs.Sources.{source_made, source_outputs};
+ghost use Rattle.program_nodes.specs.Sources.{source_made, source_outputs};
 
+use program_nodes::{SourceNodes, source};
 use std::alloc::{AllocError, Global};
 use std::marker::Model;
 use std::sync::Arc;
-use symbolic_values::{SourceNodes, source};
 use term_store::Store;
 use word_program::Program;
 

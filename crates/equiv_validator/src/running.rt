@@ -2,15 +2,16 @@ ghost use Rattle.std.specs.Prelude.{◌≡◌, ◌+◌, ◌*◌, ◌-◌, ◌^�
 ghost use Rattle.base.specs.declared.limits.TheConstants.{MAX_LINES};
 ghost use Rattle.terms.specs.Tables.{Prefix};
 ghost use Rattle.term_store.specs.Indexed.{joined_nodes};
-ghost use Rattle.symbolic_values.specs.Fitting.{FitsTable};
-ghost use Rattle.symbolic_values.specs.Sources.{source_made};
+ghost use Rattle.symbolic_state.specs.Fitting.{FitsTable};
+ghost use Rattle.program_nodes.specs.Sources.{source_made};
 ghost use Rattle.equiv_validator.specs.Checks.{Ran};
 ghost use Rattle.equiv_validator.specs.Ended.{HasShapeAtEnd, IsEnding};
 ghost use Rattle.equiv_validator.specs.Runs.{run_from, run_of};
 
 use crate::prepared::Prepared;
 use std::alloc::{AllocError, Global};
-use symbolic_values::{Moved, SymState, start};
+use symbolic_state::{SymState, start};
+use symbolic_values::{Moved, sym_step};
 use term_store::{Interner, Tail};
 use x86_instr::{Line, Listing};
 
@@ -30,13 +31,14 @@ pub fn run<T: Interner>(
     ensures part { OnErr result (Prefix (T.nodes store.new)
         (run_from 1 lines.entry.now (T.nodes store.old) state.old).table) }
     ensures grows { Prefix (T.nodes store.old) (T.nodes store.new) }
+    ensures fixed { T.fixed store.new ≡ T.fixed store.old }
 {
     let mut number = 1;
     for line in lines {
         if line.instr.is_ret() {
             return Ok(None);
         }
-        match state.sym_step(store, line)? {
+        match sym_step(state, store, line)? {
             Moved::Done => {}
             Moved::Stuck => return Ok(Some(number)),
         }
@@ -69,6 +71,7 @@ pub fn run_listing(
         (run_of prepared.entry.now listing.entry.now.lines)) }
     ensures part { OnErr result (Prefix (joined_nodes tail.new)
         (run_of prepared.entry.now listing.entry.now.lines).table) }
+    ensures base { tail.new.base ≡ tail.old.base }
     ensures shape { IfOk result (HasShapeAtEnd prepared.entry.now listing.entry.now.lines) }
 {
     let _ = prepared.program().params();

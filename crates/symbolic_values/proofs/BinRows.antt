@@ -1,65 +1,28 @@
 -- The rows of ADD, ADC, SUB, SBB, AND, OR, XOR and CMP, from their operands' nodes.
-use Rattle.std.proofs.Common.{◌≡◌, ℕ, ◌+◌, ◌-◌, ◌%◌, ◌^◌, ◌<◌, ◌≤◌, Bool, true, false, List, []}
-use Rattle.std.proofs.Common.{◌∷◌, length, nat_le, nat_lt, cond, Option, Some, None, IfSome, option_map, bit_and}
-use Rattle.std.proofs.Common.{bit_or, bit_xor, refl, sym, ap, subst, arith}
-use Rattle.std.specs.List.{AllByRecursion}
-use Rattle.std.proofs.lemmas.Bool.Decides.{nat_tests}
-use Rattle.std.proofs.lemmas.List.Elements.{All-from_recursion}
-use Rattle.std.proofs.lemmas.List.Sums.{count_by-le-length}
+use Rattle.std.proofs.Common.{◌≡◌, ℕ, ◌+◌, ◌-◌, ◌%◌, ◌^◌, ◌<◌, false, List, []}
+use Rattle.std.proofs.Common.{◌∷◌, length, nat_le, nat_lt, Option, Some, None, option_map, bit_and}
+use Rattle.std.proofs.Common.{bit_or, bit_xor, refl, sym, ap, arith}
 use Rattle.x86_instr.specs.declared.operand.Reg.{Reg}
 use Rattle.x86_instr.specs.declared.instr.Bin.{Bin}
 use Rattle.x86_instr.specs.declared.instr.Bin.TheVariants.{Add, Adc, Sub, Sbb, And, Or, Xor, Cmp}
 use Rattle.x86_meaning.specs.declared.state.State.{State}
 use Rattle.x86_meaning.specs.Machine.{bin_into, biased, bit, difference_into, overflows, reg, sum_into}
-use Rattle.terms.specs.declared.lists.Term.{Term}
 use Rattle.terms.specs.declared.nodes.Node.{Node}
 use Rattle.terms.specs.declared.nodes.Form.TheVariants as forms
-use Rattle.terms.specs.Tables.{AreBelow, AreTermsBelow, IsTable}
-use Rattle.terms.specs.Forms.{FormFits, is_no_bit}
-use Rattle.symbolic_values.specs.Symbols.{Symbols, node_in}
-use Rattle.symbolic_values.specs.Steps.{arithmetic, bin_step, minus, plus, sum}
-use Rattle.symbolic_values.specs.Fitting.{IsBit, FitsTable}
-use Rattle.symbolic_values.specs.Covering.{FlagAgrees}
-use Rattle.symbolic_values.proofs.LaterTables.{node_inside}
+use Rattle.terms.specs.Tables.{IsTable}
+use Rattle.symbolic_state.specs.Symbols.{Symbols, node_in}
+use Rattle.symbolic_values.specs.Steps.{arithmetic, bin_step}
+use Rattle.program_nodes.specs.Terms.{minus, plus, sum}
+use Rattle.program_nodes.specs.Operands.{IsBit}
+use Rattle.program_nodes.proofs.FormsFit.{carry2_fits, carry_last_fits, numbers_below, terms_below}
+use Rattle.symbolic_state.specs.Fitting.{FitsTable}
+use Rattle.symbolic_state.proofs.LaterTables.{node_inside}
+use Rattle.symbolic_state.proofs.Runs.{Run, Agreed}
+use Rattle.symbolic_values.proofs.ChainRows.{IsFlag, flag_bit, flag_known}
 use Rattle.symbolic_values.proofs.RowResults.{arithmetic_row, logic_row}
-use Rattle.symbolic_values.proofs.StepRows.{Run, Agreed, Row, flag_row}
+use Rattle.symbolic_values.proofs.StepRows.{Row, flag_row}
 use Rattle.symbolic_values.proofs.Words.{added, added_with, bit_small, borrowed, borrowed_one, borrowed_with, carried}
 use Rattle.symbolic_values.proofs.Words.{carried_two, compared, subtracted, subtracted_with}
-
--- ---- forms that fit
-
-pub terms_below : (n : ℕ) (terms : List Term) → AllByRecursion (λ t. t.node < n) terms → AreTermsBelow n terms
-terms_below n terms all = All-from_recursion (λ (t : Term). t.node < n) terms all
-
-pub numbers_below : (n : ℕ) (numbers : List ℕ) → AllByRecursion (λ m. m < n) numbers → AreBelow n numbers
-numbers_below n numbers all = All-from_recursion (λ m. m < n) numbers all
-
-carry_fits : (t : List Node) (d s : ℕ) → d < length t → s < length t → FormFits t (forms.Carry (d ∷ s ∷ []))
-carry_fits t d s h k = (
-  numbers_below (length t) (d ∷ s ∷ []) (h, (k, tt)),
-  omega arith,
-  omega arith,
-  count_by-le-length (is_no_bit t) (d ∷ s ∷ []),
-)
-
-most_two : (a b c : Bool) → c ≡ false → 0 + cond a 1 0 + cond b 1 0 + cond c 1 0 ≤ 2
-most_two a b true e = cc
-most_two true true false e = omega arith
-most_two true false false e = omega arith
-most_two false true false e = omega arith
-most_two false false false e = omega arith
-
--- two words and a bit
-carry_with_fits : (t : List Node) (d s c : ℕ) → d < length t → s < length t → IsBit t c
-    → FormFits t (forms.Carry (d ∷ s ∷ c ∷ []))
-carry_with_fits t d s c h k bit = let high = bit.high in (
-  numbers_below (length t) (d ∷ s ∷ c ∷ []) (h, (k, (bit.inside, tt))),
-  omega arith,
-  omega arith,
-  most_two (is_no_bit t d) (is_no_bit t s) (is_no_bit t c) (grind (arith, nat_tests, high)),
-)
-
--- ---- rows
 
 module _ (dst : Reg) (t : List Node) (y : Symbols) (table : IsTable t) (fits : FitsTable t y) (s : ℕ)
     (inside : s < length t) where
@@ -76,7 +39,7 @@ module _ (dst : Reg) (t : List Node) (y : Symbols) (table : IsTable t) (fits : F
   add_row : Row t y (Next Add) (bin_step Add dst d s t y)
   add_row = arithmetic_row t y table fits (Next Add) (sum (plus d ∷ plus s ∷ []))
       (terms_below (length t) (plus d ∷ plus s ∷ []) (d_inside, (inside, tt)), omega arith) tt
-      (Some dst) (forms.Carry (d ∷ s ∷ [])) (carry_fits t d s d_inside inside) tt tt
+      (Some dst) (forms.Carry (d ∷ s ∷ [])) (carry2_fits t d s d_inside inside) tt tt
       (λ r st v a. let e = a.registers dst in let small = v.sound.word in record {
         word = (reg st dst + r.val s + 0) % 2 ^ 64;
         out = nat_le (2 ^ 64) (reg st dst + r.val s + 0);
@@ -87,18 +50,11 @@ module _ (dst : Reg) (t : List Node) (y : Symbols) (table : IsTable t) (fits : F
         overflows = λ n k. tt;
       })
 
-  -- what a known carry says in a run
-  record IsFlag (r : Run) (c : ℕ) (flag : Option Bool) : Type 0 where
-    pub value : Bool
-    pub defined : flag ≡ Some value
-    pub word : r.val c ≡ bit value
-
   carry_known : (c : ℕ) → y.cf ≡ Some c → (r : Run) (st : State) → Agreed r y st → IsFlag r c st.cf
-  carry_known c e r st a = let f = subst (λ flag. FlagAgrees r.val flag st.cf) e a.cf in
-      record { value = f.0; defined = f.1; word = f.2 }
+  carry_known c e r st a = flag_known r y.cf st.cf c e a.cf
 
   carry_bit : (c : ℕ) → y.cf ≡ Some c → IsBit t c
-  carry_bit c e = subst (λ flag. IfSome flag (IsBit t)) e fits.cf
+  carry_bit c e = flag_bit t y.cf c e fits.cf
 
   adc_row : Row t y (Next Adc) (bin_step Adc dst d s t y)
   adc_row = flag_row t y (Next Adc) y.cf
@@ -108,7 +64,7 @@ module _ (dst : Reg) (t : List Node) (y : Symbols) (table : IsTable t) (fits : F
         terms_below (length t) (plus d ∷ plus s ∷ plus c ∷ []) (d_inside, (inside, (b.inside, tt))),
         omega arith,
       ) tt
-      (Some dst) (forms.Carry (d ∷ s ∷ c ∷ [])) (carry_with_fits t d s c d_inside inside b) tt tt
+      (Some dst) (forms.Carry (d ∷ s ∷ c ∷ [])) (carry_last_fits t d s c d_inside inside b.inside b.high) tt tt
       (λ r st v a.
       let e = a.registers dst in let small = v.sound.word in let f = carry_known c k r st a in
       record {

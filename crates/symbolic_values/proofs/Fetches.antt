@@ -21,17 +21,18 @@ use Rattle.terms.specs.declared.nodes.Form.TheVariants as forms
 use Rattle.terms.specs.Tables.{IsTable}
 use Rattle.term_store.specs.Interning.{made}
 use Rattle.term_store.proofs.Prefixes.{prefix_length}
-use Rattle.symbolic_values.specs.Symbols.{Symbols, node_in}
-use Rattle.symbolic_values.specs.Cells.{Cell, address_form, cell_named, node_of, touch_of}
-use Rattle.symbolic_values.specs.Steps.{Fetched, Word, at_hand, fetched_cell, fetched_const, read_cell, rm_fetched}
-use Rattle.symbolic_values.specs.Steps.{src_fetched}
-use Rattle.symbolic_values.specs.Fitting.{FitsTable}
+use Rattle.symbolic_state.specs.Symbols.{Symbols, node_in}
+use Rattle.symbolic_state.specs.Cells.{Cell, address_form, cell_named, node_of, touch_of}
+use Rattle.symbolic_state.specs.Fetching.{Fetched, Word, at_hand, fetched_cell, fetched_const, read_cell, rm_fetched}
+use Rattle.symbolic_state.specs.Fetching.{src_fetched}
+use Rattle.symbolic_state.specs.Fitting.{FitsTable}
 use Rattle.symbolic_values.specs.Covering.{TouchAgrees}
-use Rattle.symbolic_values.proofs.KnownCells.{node_known}
-use Rattle.symbolic_values.proofs.LaterTables.{node_inside}
-use Rattle.symbolic_values.proofs.Named.{is_named}
-use Rattle.symbolic_values.proofs.PlainRows.{address_fits, address_is}
-use Rattle.symbolic_values.proofs.StepRows.{Run, Agreed, Grows, Shaped, Valued, grows_not, makes}
+use Rattle.symbolic_state.proofs.KnownCells.{node_known}
+use Rattle.symbolic_state.proofs.LaterTables.{node_inside}
+use Rattle.symbolic_state.proofs.Named.{is_named}
+use Rattle.symbolic_state.proofs.AddressForms.{address_fits, address_is}
+use Rattle.symbolic_state.proofs.Runs.{Run, Agreed, Shaped, Valued}
+use Rattle.symbolic_values.proofs.StepRows.{Grows, grows_not, makes}
 
 -- the machine's source has the node's word, and accesses the cell that the state tells
 pub record Reads (r : Run) (word : Option ℕ) (cell : Touched) (w : Word) : Type 0 where

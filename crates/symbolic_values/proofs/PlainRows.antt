@@ -1,60 +1,32 @@
--- The rows of the instructions that read no source: LEA, TEST, NEG, NOT and CLC; and INC and DEC, which are stuck.
-use Rattle.std.proofs.Common.{◌≡◌, ℕ, ◌-◌, ◌%◌, ◌^◌, ◌<◌, ◌≤◌, ◌==◌, false, not, List}
+-- The rows of LEA, TEST, the instructions on one register, and CLC.
+use Rattle.std.proofs.Common.{ℕ, ◌-◌, ◌%◌, ◌^◌, ◌<◌, ◌==◌, false, not, List}
 use Rattle.std.proofs.Common.{[], ◌∷◌, length, Option, Some, None, bit_and, refl, arith}
-use Rattle.x86_instr.specs.declared.operand.Index.{Index}
 use Rattle.x86_instr.specs.declared.operand.Mem.{Mem}
 use Rattle.x86_instr.specs.declared.operand.Reg.{Reg}
 use Rattle.x86_instr.specs.declared.instr.Un.{Un}
 use Rattle.x86_instr.specs.declared.instr.Un.TheVariants.{Inc, Dec, Neg, Not}
 use Rattle.x86_meaning.specs.declared.state.State.{State}
-use Rattle.x86_meaning.specs.Machine.{effective_address, index_word, reg, un_into, with_logic_flags, with_reg}
+use Rattle.x86_meaning.specs.Machine.{effective_address, reg, un_into, with_logic_flags, with_reg}
 use Rattle.terms.specs.declared.nodes.Node.{Node}
 use Rattle.terms.specs.declared.nodes.Form.TheVariants as forms
-use Rattle.terms.specs.Tables.{AreTermsBelow, IsTable}
-use Rattle.terms.specs.Forms.{FormFits}
-use Rattle.terms.specs.Meaning.{form_value, weighted}
+use Rattle.terms.specs.Tables.{IsTable}
 use Rattle.term_store.specs.Interning.{made}
 use Rattle.term_store.proofs.Made.{made_bit}
 use Rattle.term_store.proofs.Prefixes.{prefix_length}
-use Rattle.symbolic_values.specs.Symbols.{Symbols, node_in}
-use Rattle.symbolic_values.specs.Cells.{address_form, index_terms, term}
-use Rattle.symbolic_values.specs.Steps.{arithmetic, clc_step, logic, minus, neg_step, result_only, sum, un_step}
-use Rattle.symbolic_values.specs.Fitting.{FitsTable}
-use Rattle.symbolic_values.proofs.BinRows.{terms_below, numbers_below}
-use Rattle.symbolic_values.proofs.LaterTables.{fits_flags, fits_table_later, node_inside}
+use Rattle.symbolic_state.specs.Symbols.{Symbols, node_in}
+use Rattle.symbolic_state.specs.Cells.{address_form}
+use Rattle.symbolic_values.specs.Steps.{arithmetic, clc_step, logic, neg_step, result_only, un_step}
+use Rattle.program_nodes.specs.Terms.{minus, sum}
+use Rattle.symbolic_state.specs.Fitting.{FitsTable}
+use Rattle.program_nodes.proofs.FormsFit.{numbers_below, terms_below}
+use Rattle.symbolic_state.proofs.AddressForms.{address_fits, address_is}
+use Rattle.symbolic_state.proofs.LaterTables.{fits_flags, fits_table_later, node_inside}
+use Rattle.symbolic_state.proofs.Runs.{Run}
 use Rattle.symbolic_values.proofs.RowResults.{agrees_written, arithmetic_row, logic_row, result_row}
 use Rattle.symbolic_values.proofs.RowResults.{written}
-use Rattle.symbolic_values.proofs.StepRows.{Run, Agreed, Row, makes, row_on, start_in, stuck_row}
+use Rattle.symbolic_values.proofs.StepRows.{Row, makes, row_on}
+use Rattle.symbolic_values.proofs.ZeroRows.{dec_row, inc_row}
 use Rattle.symbolic_values.proofs.Words.{borrowed_nought, complemented, negated}
-
--- ---- addresses
-
-indexes_below : (t : List Node) (y : Symbols) → FitsTable t y → (base : Reg) (index : Option Index)
-    → AreTermsBelow (length t) (term 1 (node_in y base) ∷ index_terms y index)
-indexes_below t y fits base None = terms_below (length t) (term 1 (node_in y base) ∷ [])
-    (node_inside t y fits base, tt)
-indexes_below t y fits base (Some index) = terms_below (length t)
-    (term 1 (node_in y base) ∷ term index.scale (node_in y index.reg) ∷ [])
-    (node_inside t y fits base, (node_inside t y fits index.reg, tt))
-
-few_terms : (y : Symbols) (base : Reg) (index : Option Index)
-    → length (term 1 (node_in y base) ∷ index_terms y index) ≤ 16
-few_terms y base None = omega arith
-few_terms y base (Some index) = omega arith
-
-pub address_fits : (t : List Node) (y : Symbols) (mem : Mem) → FitsTable t y → FormFits t (address_form y mem)
-address_fits t y mem fits = (indexes_below t y fits mem.base mem.index, few_terms y mem.base mem.index)
-
-index_is : (r : Run) (y : Symbols) (s : State) (index : Option Index) → Agreed r y s
-    → weighted r.val (index_terms y index) ≡ index_word s index
-index_is r y s None a = refl
-index_is r y s (Some index) a = let e = a.registers index.reg in rw e (omega arith)
-
--- the address that the machine computes
-pub address_is : (r : Run) (y : Symbols) (s : State) (mem : Mem) → Agreed r y s
-    → form_value (start_in r) r.val (address_form y mem) ≡ effective_address s mem
-address_is r y s mem a =
-    let e = a.registers mem.base in let i = index_is r y s mem.index a in omega (arith, e, i)
 
 module _ (t : List Node) (y : Symbols) (table : IsTable t) (fits : FitsTable t y) where
   pub lea_row : (dst : Reg) (mem : Mem)
@@ -80,7 +52,7 @@ module _ (t : List Node) (y : Symbols) (table : IsTable t) (fits : FitsTable t y
         overflows = λ n j. (false, refl, j);
       })
 
-  -- ---- NEG and NOT
+  -- ---- INC, DEC, NEG and NOT
 
   module _ (dst : Reg) where
     abbrev d : ℕ
@@ -128,8 +100,8 @@ module _ (t : List Node) (y : Symbols) (table : IsTable t) (fits : FitsTable t y
         }))
 
     pub un_row : (op : Un) → Row t y (Next op) (un_step op dst d t y)
-    un_row Inc = stuck_row t y (Next Inc) table
-    un_row Dec = stuck_row t y (Next Dec) table
+    un_row Inc = inc_row t y table fits dst
+    un_row Dec = dec_row t y table fits dst
     un_row Neg = neg_row
     un_row Not = not_row
 

@@ -15,15 +15,19 @@ use Rattle.terms.specs.Meaning.{form_value}
 use Rattle.term_store.specs.Interning.{made}
 use Rattle.term_store.proofs.Made.{IsBitForm, made_bit}
 use Rattle.term_store.proofs.Prefixes.{fits_later, prefix_length}
-use Rattle.symbolic_values.specs.declared.touch.Touch.{Touch}
-use Rattle.symbolic_values.specs.Symbols.{Symbols, node_in, with_flags, with_touch}
-use Rattle.symbolic_values.specs.Steps.{Step, goes, write, arithmetic, logic, result_only}
-use Rattle.symbolic_values.specs.Fitting.{IsBit, FitsTable}
-use Rattle.symbolic_values.specs.Covering.{FlagAgrees}
-use Rattle.symbolic_values.proofs.LaterTables.{bit_later, fits_table_later, fits_flags, fits_write}
-use Rattle.symbolic_values.proofs.KnownCells.{same_nodes}
-use Rattle.symbolic_values.proofs.StepRows.{Run, Agreed, Valued, IsPlain, Row, start_in}
-use Rattle.symbolic_values.proofs.StepRows.{grows_on, makes, valued_front}
+use Rattle.symbolic_state.specs.declared.touch.Touch.{Touch}
+use Rattle.symbolic_state.specs.Symbols.{Symbols, node_in, with_flags, with_touch}
+use Rattle.symbolic_state.specs.Symbols.{write}
+use Rattle.symbolic_values.specs.Steps.{Step, goes, arithmetic, logic, result_only}
+use Rattle.program_nodes.specs.Operands.{IsBit}
+use Rattle.symbolic_state.specs.Fitting.{FitsTable}
+use Rattle.symbolic_state.specs.Agreeing.{FlagAgrees}
+use Rattle.symbolic_state.proofs.LaterTables.{bit_later, fits_table_later, fits_flags, fits_write}
+use Rattle.symbolic_state.proofs.KnownCells.{same_nodes}
+use Rattle.symbolic_state.proofs.Runs.{Run, Agreed, Valued, start_in}
+use Rattle.symbolic_state.proofs.Runs.{valued_front}
+use Rattle.symbolic_values.proofs.StepRows.{IsPlain, Row}
+use Rattle.symbolic_values.proofs.StepRows.{grows_on, makes}
 
 -- ---- states of the machine
 

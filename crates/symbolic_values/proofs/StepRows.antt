@@ -1,57 +1,22 @@
 -- What a row of the table of steps has to show: how its table grows, that its state fits, and that it covers the
 -- machine's step. And rows that are put together.
 use Rattle.std.proofs.Common.{◌≡◌, ℕ, ◌<◌, List, length, Option, Some, None, IfSome, refl}
-use Rattle.x86_instr.specs.declared.line.Line.{Line}
-use Rattle.x86_instr.specs.Frame.{frame_of}
 use Rattle.x86_meaning.specs.declared.state.State.{State}
-use Rattle.x86_meaning.specs.Start.{IsStart}
-use Rattle.word_program.specs.Program.{Source}
 use Rattle.terms.specs.declared.nodes.Node.{Node}
 use Rattle.terms.specs.declared.nodes.Form.{Form}
 use Rattle.terms.specs.declared.nodes.Form.TheVariants as forms
 use Rattle.terms.specs.Tables.{IsTable, Prefix}
 use Rattle.terms.specs.Forms.{FormFits}
 use Rattle.terms.specs.Grown.{IsGrown}
-use Rattle.terms.specs.Meaning.{Start, IsSound, IsValuation, Admits, form_value}
+use Rattle.terms.specs.Meaning.{Start, Admits, form_value}
 use Rattle.term_store.specs.Interning.{Interned, made}
 use Rattle.term_store.proofs.Growth.{made_grown}
 use Rattle.term_store.proofs.Made.{made_below, made_prefix, made_table, made_value}
-use Rattle.term_store.proofs.Prefixes.{prefix_refl, prefix_trans, sound_front, valuation_front}
-use Rattle.symbolic_values.specs.Symbols.{Symbols}
+use Rattle.term_store.proofs.Prefixes.{prefix_refl, prefix_trans}
+use Rattle.symbolic_state.specs.Symbols.{Symbols}
+use Rattle.symbolic_state.specs.Fitting.{FitsTable}
 use Rattle.symbolic_values.specs.Steps.{Step, stuck, on_flag}
-use Rattle.symbolic_values.specs.Fitting.{FitsTable, HasShape}
-use Rattle.symbolic_values.specs.Covering.{Agrees, start_of}
-
--- ---- runs
-
--- a run of the machine from a start, and the words of nodes in it
-pub record Run : Type 0 where
-  pub program : Source
-  pub lines : List Line
-  pub inputs : List ℕ
-  pub first : State
-  pub start : IsStart program lines inputs first
-  pub val : ℕ → ℕ
-
-abbrev pub start_in : Run → Start
-start_in r = start_of r.program.params r.inputs r.first
-
-abbrev pub Agreed : Run → Symbols → State → Type 0
-Agreed r y s = Agrees r.program (frame_of r.lines) r.first r.val y s
-
-abbrev pub Shaped : Run → Symbols → Type 0
-Shaped r y = HasShape r.program (frame_of r.lines) y
-
--- the run gives the nodes of the table their words
-pub record Valued (r : Run) (t : List Node) : Type 0 where
-  pub is : IsValuation (start_in r) t r.val
-  pub sound : IsSound t r.val
-
-pub valued_front : (r : Run) (t u : List Node) → Prefix t u → Valued r u → Valued r t
-valued_front r t u p v = record {
-  is = valuation_front p v.is;
-  sound = sound_front p v.sound;
-}
+use Rattle.symbolic_state.proofs.Runs.{Run, Agreed, Valued, start_in}
 
 -- ---- how tables grow
 

@@ -1,17 +1,19 @@
 -- How the table of a step grows, and the shape of its state: in every table and from every state.
-use Rattle.std.proofs.Common.{◌≡◌, ℕ, ◌+◌, ◌-◌, ◌%◌, ◌^◌, ◌≤◌, true, List, [], ◌∷◌, length, Option, Some, None, IfSome}
-use Rattle.std.proofs.Common.{option_map, refl, sym, ap, ◌∙◌, subst, arith}
+use Rattle.std.proofs.Common.{◌≡◌, ℕ, ◌+◌, ◌-◌, ◌%◌, ◌^◌, ◌≤◌, ◌==◌, Bool, true, false, List, [], ◌∷◌, length, Option}
+use Rattle.std.proofs.Common.{Some, None, IfSome, if◌then◌else◌, option_map, refl, sym, ap, ◌∙◌, subst, arith}
 use Rattle.std.specs.Int.{cast_unsigned, w64}
-use Rattle.base.specs.Options.{◌>>=◌}
+use Rattle.base.specs.Options.{◌>>=◌, pick}
 use Rattle.word_program.specs.Program.{Source}
 use Rattle.x86_instr.specs.declared.instr.Bin.{Bin}
 use Rattle.x86_instr.specs.declared.instr.Bin.TheVariants.{Add, Adc, Sub, Sbb, And, Or, Xor, Cmp}
+use Rattle.x86_instr.specs.declared.instr.Cond.{Cond}
 use Rattle.x86_instr.specs.declared.instr.Instr.{Instr}
 use Rattle.x86_instr.specs.declared.instr.Instr.TheVariants as instrs
 use Rattle.x86_instr.specs.declared.instr.Un.{Un}
 use Rattle.x86_instr.specs.declared.instr.Un.TheVariants.{Inc, Dec, Neg, Not}
 use Rattle.x86_instr.specs.declared.operand.Mem.{Mem}
 use Rattle.x86_instr.specs.declared.operand.Reg.{Reg}
+use Rattle.x86_instr.specs.declared.operand.Reg.TheVariants.{Rax, Rdx}
 use Rattle.x86_instr.specs.declared.operand.Rm.{Rm}
 use Rattle.x86_instr.specs.declared.operand.Rm.TheVariants as rms
 use Rattle.x86_instr.specs.declared.operand.Src.{Src}
@@ -19,20 +21,31 @@ use Rattle.x86_instr.specs.declared.operand.Src.TheVariants as srcs
 use Rattle.terms.specs.declared.nodes.Node.{Node}
 use Rattle.terms.specs.declared.nodes.Form.{Form}
 use Rattle.terms.specs.declared.nodes.Form.TheVariants as forms
-use Rattle.terms.specs.Tables.{Prefix}
+use Rattle.terms.specs.Tables.{Prefix, node_at}
+use Rattle.terms.specs.Rules.{constant_at}
 use Rattle.term_store.specs.Interning.{made}
 use Rattle.term_store.proofs.Made.{made_most, made_prefix}
 use Rattle.term_store.proofs.Prefixes.{prefix_refl, prefix_trans}
-use Rattle.symbolic_values.specs.declared.touch.Touch.{Touch}
-use Rattle.symbolic_values.specs.Symbols.{Symbols, node_in, with_node, with_touch}
-use Rattle.symbolic_values.specs.Cells.{Cell, address_form, cell_named, stored, touch_of}
-use Rattle.symbolic_values.specs.Steps.{Fetched, Step, Word, arithmetic, bin_step, clc_step, fetched_cell}
-use Rattle.symbolic_values.specs.Steps.{fetched_const, goes, logic, minus, neg_step, on_flag, on_source, plus}
-use Rattle.symbolic_values.specs.Steps.{result_only}
-use Rattle.symbolic_values.specs.Steps.{rm_fetched, src_fetched, step_from, step_of, store_step, stuck, sum, un_step}
-use Rattle.symbolic_values.specs.Fitting.{HasShape, HaveShapes}
+use Rattle.symbolic_state.specs.declared.touch.Touch.{Touch}
+use Rattle.symbolic_state.specs.Symbols.{Symbols, node_in, with_cf, with_node, with_of, with_touch}
+use Rattle.symbolic_state.specs.Cells.{Cell, address_form, cell_named, stored, touch_of}
+use Rattle.symbolic_state.specs.Fetching.{Fetched, Word}
+use Rattle.symbolic_state.specs.Fetching.{fetched_cell, fetched_const}
+use Rattle.symbolic_state.specs.Symbols.{condition_node}
+use Rattle.symbolic_state.specs.Fetching.{rm_fetched}
+use Rattle.symbolic_state.specs.Fetching.{src_fetched}
+use Rattle.symbolic_values.specs.Steps.{Step, adcx_step, adox_step, arithmetic, bin_step, byte_of}
+use Rattle.symbolic_values.specs.Steps.{chained, clc_step, cmov_step}
+use Rattle.symbolic_values.specs.Steps.{goes, imul_step, is_negated, logic, movzx_step, mul_step, mulx_step}
+use Rattle.symbolic_values.specs.Steps.{neg_step, on_count, on_flag, on_source, result_and_overflow, result_and_zero}
+use Rattle.symbolic_values.specs.Steps.{result_only, select_by, set_by, set_step, shifted_right}
+use Rattle.symbolic_values.specs.Steps.{sum_of_two}
+use Rattle.symbolic_values.specs.Steps.{step_from, step_of, store_step, stuck, un_step}
+use Rattle.symbolic_values.specs.Sourced.{step_on}
+use Rattle.program_nodes.specs.Terms.{minus, plus, sum, term}
+use Rattle.symbolic_state.specs.Fitting.{HasShape, HaveShapes}
+use Rattle.symbolic_state.proofs.Stored.{is_stored}
 use Rattle.symbolic_values.proofs.RowResults.{SameMemory, same_written}
-use Rattle.symbolic_values.proofs.Stored.{is_stored}
 
 -- ---- tables
 
@@ -128,6 +141,94 @@ module _ (t : List Node) (y : Symbols) where
   extends_bin Xor dst d s = extends_logic (Some dst) (forms.Xor d s)
   extends_bin Cmp dst d s = extends_arithmetic None (sum (plus d ∷ minus s ∷ [])) (forms.Borrow d (s ∷ []))
 
+  -- ---- chains, products and shifts
+
+  adds_two : (f g : Form) → Adds 3 t (made (made t f).table g).table
+  adds_two f g = let r = made t f in adds_on 1 1 3 t r.table _ (omega arith) (adds_one t f) (adds_one r.table g)
+
+  pub extends_zero : (cf : Option ℕ) (dst : Reg) (f : Form) → Extends 3 t y (result_and_zero cf dst f t y)
+  unfolding result_and_zero
+  extends_zero cf dst f = let r = made t f in extends_goes 3 t _ y _ (adds_two f (forms.Zero r.number))
+      (same_written y (Some dst) r.number _ _ _)
+
+  pub extends_bit : (dst : Reg) (f g : Form) → Extends 3 t y (result_and_overflow dst f g t y)
+  unfolding result_and_overflow
+  extends_bit dst f g = extends_goes 3 t _ y _ (adds_three f g) (same_written y (Some dst) (made t f).number _ _ _)
+
+  pub extends_carry : (dst : Reg) (f g : Form) → Extends 3 t y (chained with_cf dst f g t y)
+  unfolding chained
+  extends_carry dst f g = extends_goes 3 t _ y _ (adds_two f g) (same_written y (Some dst) (made t f).number _ _ _)
+
+  pub extends_overflow : (dst : Reg) (f g : Form) → Extends 3 t y (chained with_of dst f g t y)
+  unfolding chained
+  extends_overflow dst f g = extends_goes 3 t _ y _ (adds_two f g) (same_written y (Some dst) (made t f).number _ _ _)
+
+  extends_adcx : (dst : Reg) (d s : ℕ) → Extends 3 t y (adcx_step dst d s t y)
+  extends_adcx dst d s = extends_flag y.cf
+      (λ c. chained with_cf dst (sum (plus d ∷ plus s ∷ plus c ∷ [])) (forms.Carry (d ∷ s ∷ c ∷ [])))
+      (λ c. extends_carry dst (sum (plus d ∷ plus s ∷ plus c ∷ [])) (forms.Carry (d ∷ s ∷ c ∷ [])))
+
+  extends_adox : (dst : Reg) (d s : ℕ) → Extends 3 t y (adox_step dst d s t y)
+  extends_adox dst d s = extends_flag y.of
+      (λ c. chained with_of dst (sum (plus d ∷ plus s ∷ plus c ∷ [])) (forms.Carry (d ∷ s ∷ c ∷ [])))
+      (λ c. extends_overflow dst (sum (plus d ∷ plus s ∷ plus c ∷ [])) (forms.Carry (d ∷ s ∷ c ∷ [])))
+
+  extends_mulx : (hi lo : Reg) (d s : ℕ) → Extends 3 t y (mulx_step hi lo d s t y)
+  unfolding mulx_step
+  extends_mulx hi lo d s = extends_goes 3 t _ y _ (adds_two (forms.MulLo d s) (forms.MulHi d s))
+      (record { arrays = refl; frame = refl; overlap = refl; touch = refl })
+
+  extends_mul : (d s : ℕ) → Extends 3 t y (mul_step d s t y)
+  unfolding mul_step
+  extends_mul d s = extends_goes 3 t _ y _ (adds_two (forms.MulLo d s) (forms.MulHi d s))
+      (record { arrays = refl; frame = refl; overlap = refl; touch = refl })
+
+  extends_imul : (dst : Reg) (d s : ℕ) → Extends 3 t y (imul_step dst d s t y)
+  unfolding imul_step
+  extends_imul dst d s = let f = forms.MulLo d s in
+      extends_goes 3 t _ y _ (adds_on 1 0 3 t _ _ (omega arith) (adds_one t f) (adds_none 0 _))
+      (same_written y (Some dst) (made t f).number _ _ _)
+
+  extends_count : (count : ℕ) (rest : ℕ → List Node → Symbols → Step)
+      → ((k : ℕ) → Extends 3 t y (rest k t y)) → Extends 3 t y (on_count count rest t y)
+  extends_count count rest f = by_constant (constant_at t count) where
+    by_constant : (o : Option ℕ) → Extends 3 t y (pick o (λ k. rest (k % 64) t y) (stuck t))
+    by_constant None = extends_stuck 3 t y
+    by_constant (Some k) = f (k % 64)
+
+  moved : (dst : Reg) (n : ℕ) → Extends 3 t y (goes t (with_node dst n y))
+  moved dst n = extends_goes 3 t t y _ (adds_none 3 t) (same_written y (Some dst) n y.cf y.of y.zf)
+
+  extends_right : (dst : Reg) (s k : ℕ) → Extends 3 t y (shifted_right dst s k t y)
+  unfolding shifted_right
+  extends_right dst s k = by_test (k == 0) where
+    by_test : (b : Bool)
+        → Extends 3 t y (if b then goes t (with_node dst s y) else result_only dst (forms.Shr s k) t y)
+    by_test true = moved dst s
+    by_test false = extends_only dst (forms.Shr s k)
+
+  -- ---- conditions and bytes
+
+  extends_cmov : (cond : Cond) (dst : Reg) (d s : ℕ) → Extends 3 t y (cmov_step cond dst d s t y)
+  extends_cmov cond dst d s = extends_flag (condition_node y cond)
+      (λ flag. result_only dst (select_by (is_negated cond) flag d s))
+      (λ flag. extends_only dst (select_by (is_negated cond) flag d s))
+
+  -- the step on a source's node
+  pub extends_on : (i : Instr) (before : Symbols) (s : ℕ) → Extends 3 t y (step_on i before s t y)
+  extends_on (instrs.Mov dst src) before s = moved dst s
+  extends_on (instrs.Adcx dst src) before s = extends_adcx dst (node_in before dst) s
+  extends_on (instrs.Adox dst src) before s = extends_adox dst (node_in before dst) s
+  extends_on (instrs.Mulx hi lo src) before s = extends_mulx hi lo (node_in before Rdx) s
+  extends_on (instrs.Mul src) before s = extends_mul (node_in before Rax) s
+  extends_on (instrs.Imul dst src) before s = extends_imul dst (node_in before dst) s
+  extends_on (instrs.Shlx dst src count) before s = extends_count (node_in before count)
+      (λ k. result_only dst (sum (term (2 ^ k) s ∷ []))) (λ k. extends_only dst (sum (term (2 ^ k) s ∷ [])))
+  extends_on (instrs.Shrx dst src count) before s = extends_count (node_in before count) (shifted_right dst s)
+      (extends_right dst s)
+  extends_on (instrs.Cmov cond dst src) before s = extends_cmov cond dst (node_in before dst) s
+  extends_on i before s = extends_stuck 3 t y
+
   -- ---- behind what was made before
 
   extends_behind : (m n k : ℕ) (u : List Node) (z : Symbols) (o : Step) → m + n ≤ k → Adds m t u
@@ -182,8 +283,9 @@ more : (t : List Node) (y : Symbols) (n : ℕ) (o : Step) → n ≤ 16 → Exten
 more t y n o h e = extends_behind t y 0 n 16 t y o (omega arith) (adds_none 0 t) (λ program frame shape. shape) e
 
 un_extends : (t : List Node) (y : Symbols) (op : Un) (dst : Reg) (d : ℕ) → Extends 16 t y (un_step op dst d t y)
-un_extends t y Inc dst d = extends_stuck 16 t y
-un_extends t y Dec dst d = extends_stuck 16 t y
+un_extends t y Inc dst d = more t y 3 _ (omega arith)
+    (extends_bit t y dst (forms.Lin 1 (plus d ∷ [])) (forms.Lin (2 ^ 63 + 2) (plus d ∷ [])))
+un_extends t y Dec dst d = more t y 3 _ (omega arith) (extends_zero t y y.cf dst (forms.Lin (2 ^ 64 - 1) (plus d ∷ [])))
 un_extends t y Neg dst d = more t y 4 _ (omega arith) (neg_extends t y dst d)
 un_extends t y Not dst d = more t y 3 _ (omega arith) (extends_only t y dst (forms.Lin (2 ^ 64 - 1) (minus d ∷ [])))
 
@@ -212,15 +314,49 @@ store_extends t y mem node = let address = made t (address_form y mem) in record
   shape = λ program frame shape. named_shape y node program frame shape (cell_named address.table y address.number);
 }
 
-moved : (t : List Node) (y : Symbols) (dst : Reg) (n : ℕ) → Extends 3 t y (goes t (with_node dst n y))
-moved t y dst n = extends_goes 3 t t y _ (adds_none 3 t) (same_written y (Some dst) n y.cf y.of y.zf)
+pub two_extends : (t : List Node) (y : Symbols) (dst : Reg) (f g : Form) → Extends 16 t y (sum_of_two dst f g t y)
+unfolding sum_of_two
+two_extends t y dst f g =
+    let a = made t f in
+    let b = made a.table g in
+    extends_behind t y 3 3 16 b.table y _ (omega arith) (adds_two t y f g) (λ program frame shape. shape)
+    (extends_zero b.table y None dst (sum (plus a.number ∷ plus b.number ∷ [])))
+
+set_by_extends : (t : List Node) (y : Symbols) (negated : Bool) (dst : Reg) (d flag : ℕ)
+    → Extends 16 t y (set_by negated dst d flag t y)
+unfolding set_by
+set_by_extends t y false dst d flag = more t y 3 _ (omega arith) (extends_only t y dst (forms.SetB d flag))
+set_by_extends t y true dst d flag =
+    let clear = made t (forms.Lin 1 (minus flag ∷ [])) in
+    extends_behind t y 1 3 16 clear.table y _ (omega arith) (adds_one t (forms.Lin 1 (minus flag ∷ [])))
+    (λ program frame shape. shape) (extends_only clear.table y dst (forms.SetB d clear.number))
+
+set_extends : (t : List Node) (y : Symbols) (cond : Cond) (dst : Reg) (d : ℕ) → Extends 16 t y (set_step cond dst d t y)
+set_extends t y cond dst d = by_flag (condition_node y cond) where
+  by_flag : (flag : Option ℕ) → Extends 16 t y (on_flag flag (set_by (is_negated cond) dst d) t y)
+  by_flag None = extends_stuck 16 t y
+  by_flag (Some node) = set_by_extends t y (is_negated cond) dst d node
+
+movzx_extends : (t : List Node) (y : Symbols) (dst : Reg) (s : ℕ) → Extends 16 t y (movzx_step dst s t y)
+unfolding movzx_step
+movzx_extends t y dst s = by_byte (byte_of t (node_at t s).kind) where
+  by_byte : (o : Option ℕ) → Extends 16 t y (pick o (λ b. goes t (with_node dst b y))
+      (let mask = made t (forms.Const 255) in result_only dst (forms.And s mask.number) mask.table y))
+  by_byte None = let mask = made t (forms.Const 255) in
+      extends_behind t y 1 3 16 mask.table y _ (omega arith) (adds_one t (forms.Const 255))
+      (λ program frame shape. shape) (extends_only mask.table y dst (forms.And s mask.number))
+  by_byte (Some b) = more t y 3 _ (omega arith) (moved t y dst b)
+
+-- a step with a source in a register or the memory
+sourced : (t : List Node) (y : Symbols) (i : Instr) (src : Rm)
+    → Extends 16 t y (on_source (rm_fetched t y src) y (step_on i y))
+sourced t y i src = extends_source t y (rm_fetched t y src) (step_on i y) (rm_adds t y src)
+    (λ w. extends_on _ (with_touch w.touch y) i y w.node)
 
 -- ---- all steps
 
 from_extends : (t : List Node) (y : Symbols) (i : Instr) → Extends 16 t y (step_from i t y)
-from_extends t y (instrs.Mov dst src) =
-    extends_source t y (rm_fetched t y src) (λ n u z. goes u (with_node dst n z)) (rm_adds t y src)
-    (λ w. moved _ (with_touch w.touch y) dst w.node)
+from_extends t y (instrs.Mov dst src) = sourced t y (instrs.Mov dst src) src
 from_extends t y (instrs.MovImm dst imm) =
     extends_source t y (fetched_const t imm) (λ n u z. goes u (with_node dst n z)) (const_adds t y imm)
     (λ w. moved _ (with_touch w.touch y) dst w.node)
@@ -232,9 +368,24 @@ from_extends t y (instrs.Bin op dst src) =
 from_extends t y (instrs.Test a b) =
     more t y 3 _ (omega arith) (extends_logic t y None (forms.And (node_in y a) (node_in y b)))
 from_extends t y (instrs.Un op dst) = un_extends t y op dst (node_in y dst)
+from_extends t y (instrs.Adcx dst src) = sourced t y (instrs.Adcx dst src) src
+from_extends t y (instrs.Adox dst src) = sourced t y (instrs.Adox dst src) src
+from_extends t y (instrs.Mulx hi lo src) = sourced t y (instrs.Mulx hi lo src) src
+from_extends t y (instrs.Mul src) = sourced t y (instrs.Mul src) src
+from_extends t y (instrs.Imul dst src) = sourced t y (instrs.Imul dst src) src
+from_extends t y (instrs.Shl dst by) =
+    more t y 3 _ (omega arith) (extends_zero t y None dst (sum (term (2 ^ by) (node_in y dst) ∷ [])))
+from_extends t y (instrs.Shr dst by) =
+    more t y 3 _ (omega arith) (extends_zero t y None dst (forms.Shr (node_in y dst) by))
+from_extends t y (instrs.Shrd dst src by) = two_extends t y dst (forms.Shr (node_in y dst) by)
+    (sum (term (2 ^ (64 - by)) (node_in y src) ∷ []))
+from_extends t y (instrs.Shlx dst src count) = sourced t y (instrs.Shlx dst src count) src
+from_extends t y (instrs.Shrx dst src count) = sourced t y (instrs.Shrx dst src count) src
+from_extends t y (instrs.Set cond dst) = set_extends t y cond dst (node_in y dst)
+from_extends t y (instrs.Movzx dst src) = movzx_extends t y dst (node_in y src)
+from_extends t y (instrs.Cmov cond dst src) = sourced t y (instrs.Cmov cond dst src) src
 from_extends t y instrs.Clc = more t y 1 _ (omega arith) (clc_extends t y)
 from_extends t y instrs.Ret = extends_goes 16 t t y y (adds_none 16 t) (same_written y None 0 y.cf y.of y.zf)
-from_extends t y i = extends_stuck 16 t y
 
 step_extends : (i : Instr) (t : List Node) (y : Symbols) → Extends 16 t (with_touch None y) (step_of i t y)
 unfolding step_of

@@ -22,18 +22,19 @@ use Rattle.terms.specs.declared.nodes.Node.{Node}
 use Rattle.terms.specs.Tables.{IsTable}
 use Rattle.term_store.specs.Interning.{made}
 use Rattle.term_store.proofs.Prefixes.{prefix_length}
-use Rattle.symbolic_values.specs.Symbols.{Symbols, node_in, with_touch}
-use Rattle.symbolic_values.specs.Cells.{Cell, address_form, cell_named, stored, touch_of}
+use Rattle.symbolic_state.specs.Symbols.{Symbols, node_in, with_touch}
+use Rattle.symbolic_state.specs.Cells.{Cell, address_form, cell_named, stored, touch_of}
+use Rattle.symbolic_state.specs.Fitting.{FitsTable}
+use Rattle.symbolic_state.specs.Agreeing.{FlagAgrees}
 use Rattle.symbolic_values.specs.Steps.{store_step}
-use Rattle.symbolic_values.specs.Fitting.{FitsTable}
-use Rattle.symbolic_values.specs.Covering.{FlagAgrees}
-use Rattle.symbolic_values.proofs.KnownCells.{node_within}
-use Rattle.symbolic_values.proofs.LaterTables.{fits_table_later, fits_touch, node_inside}
-use Rattle.symbolic_values.proofs.Named.{IsNamed, is_named}
-use Rattle.symbolic_values.proofs.PlainRows.{address_fits, address_is}
+use Rattle.symbolic_state.proofs.KnownCells.{node_within}
+use Rattle.symbolic_state.proofs.LaterTables.{fits_table_later, fits_touch, node_inside}
+use Rattle.symbolic_state.proofs.Named.{IsNamed, is_named}
+use Rattle.symbolic_state.proofs.AddressForms.{address_fits, address_is}
+use Rattle.symbolic_state.proofs.Runs.{Run, Agreed, Shaped}
+use Rattle.symbolic_state.proofs.Stored.{Kept, Here, Beside, Apart, IsStored, is_stored}
 use Rattle.symbolic_values.proofs.RowResults.{agrees_touch}
-use Rattle.symbolic_values.proofs.StepRows.{Run, Agreed, Shaped, makes}
-use Rattle.symbolic_values.proofs.Stored.{Kept, Here, Beside, Apart, IsStored, is_stored}
+use Rattle.symbolic_values.proofs.StepRows.{makes}
 use Rattle.symbolic_values.proofs.Wholes.{StepsIn, Whole}
 
 -- ---- the memory

@@ -8,15 +8,18 @@ use Rattle.x86_meaning.specs.Machine as machine
 use Rattle.x86_meaning.specs.Touches.{Touched, NoCell, touched, written_address}
 use Rattle.terms.specs.declared.nodes.Node.{Node}
 use Rattle.terms.specs.Tables.{IsTable}
-use Rattle.symbolic_values.specs.Symbols.{Symbols, with_touch}
-use Rattle.symbolic_values.specs.Steps.{Fetched, Step, Word, on_source, stuck}
-use Rattle.symbolic_values.specs.Fitting.{FitsTable}
+use Rattle.symbolic_state.specs.Symbols.{Symbols, with_touch}
+use Rattle.symbolic_state.specs.Fetching.{Fetched, Word}
+use Rattle.symbolic_state.specs.Fitting.{FitsTable}
+use Rattle.symbolic_values.specs.Steps.{Step, on_source}
 use Rattle.symbolic_values.specs.Covering.{IsWritable, Steps, TouchAgrees}
+use Rattle.symbolic_state.proofs.LaterTables.{fits_table_later, fits_touch}
+use Rattle.symbolic_state.proofs.Runs.{Run, Agreed, Shaped, Valued}
+use Rattle.symbolic_state.proofs.Runs.{valued_front}
 use Rattle.symbolic_values.proofs.Fetches.{Fetches, Reads}
-use Rattle.symbolic_values.proofs.LaterTables.{fits_table_later, fits_touch}
 use Rattle.symbolic_values.proofs.RowResults.{agrees_touch}
-use Rattle.symbolic_values.proofs.StepRows.{Run, Agreed, Goes, Grows, Row, Shaped, Valued, grows_not}
-use Rattle.symbolic_values.proofs.StepRows.{grows_on, valued_front}
+use Rattle.symbolic_values.proofs.StepRows.{Goes, Grows, Row}
+use Rattle.symbolic_values.proofs.StepRows.{grows_on}
 
 -- the step of the instruction that is told in a run
 abbrev pub StepsIn : Run → Instr → State → Symbols → Type 0
@@ -28,15 +31,6 @@ pub record Whole (i : Instr) (t : List Node) (y : Symbols) (o : Step) : Type 1 w
   pub fits : IfSome o.state (FitsTable o.table)
   pub covers : FitsInstr i → (r : Run) (s : State) → Shaped r y → Valued r o.table → Agreed r y s
       → IfSome o.state (StepsIn r i s)
-
--- ---- stuck steps
-
-pub stuck_whole : (i : Instr) (t : List Node) (y : Symbols) → IsTable t → Whole i t y (stuck t)
-stuck_whole i t y table = record {
-  grows = grows_not t table;
-  fits = tt;
-  covers = λ fit r s shape v a. tt;
-}
 
 -- ---- rows
 

@@ -1,87 +1,106 @@
 //! The rows of the instructions on one register.
 
-ghost use Rattle.std.specs.Prelude.{◌≡◌, ◌+◌, ◌-◌, ◌^◌, ◌<◌, ◌≤◌, length, IfOk, OnOk, OnErr, None};
-ghost use Rattle.x86_instr.specs.declared.instr.Un.TheVariants.{Not};
-ghost use Rattle.terms.specs.Tables.{Prefix};
-ghost use Rattle.symbolic_values.specs.Fitting.{FitsTable};
-ghost use Rattle.symbolic_values.specs.Moving.{IsStep};
+ghost use Rattle.std.specs.Prelude.{◌≡◌, ◌-◌, ◌^◌, ◌≤◌, length, None};
+ghost use Rattle.x86_instr.specs.declared.instr.Un.TheVariants.{Dec, Not};
+ghost use Rattle.symbolic_state.specs.Fitting.{FitsTable};
+ghost use Rattle.symbolic_state.specs.Symbols as symbols;
+ghost use Rattle.symbolic_values.specs.Moving.{Leaves};
 ghost use Rattle.symbolic_values.specs.Steps as steps;
-ghost use Rattle.symbolic_values.specs.Symbols as symbols;
 
-use crate::forms::{borrow1, lin1, make, minus};
 use crate::moved::Moved;
-use crate::state::SymState;
+use crate::rows::{arithmetic, result_and_overflow, result_and_zero, result_only};
+use program_nodes::{borrow1, lin1, make, minus, plus};
 use std::alloc::AllocError;
+use symbolic_state::SymState;
 use term_store::Interner;
 use terms::Form;
 use x86_instr::{Reg, Un};
 
-impl SymState {
-    /// `neg`
-    #[tactic(auto, unfolding(crate::specs::Steps::neg_step), using(crate::proofs::StepRules::fitting, crate::proofs::StepParts::made_later))]
-    fn negate<T: Interner>(&mut self, store: &mut T, dst: Reg) -> Result<(), AllocError>
-        requires room { length (T.nodes store.now) ≤ 2 ^ 32 - 9 }
-        requires fits { FitsTable (T.nodes store.now) self.now }
-        ensures step { OnOk result (steps.goes (T.nodes store.new) self.new
-            ≡ steps.neg_step dst (symbols.node_in self.old dst) (T.nodes store.old)
-            (symbols.with_touch None self.old)) }
-        ensures part { OnErr result (Prefix (T.nodes store.new)
-            (steps.neg_step dst (symbols.node_in self.old dst) (T.nodes store.old)
-            (symbols.with_touch None self.old)).table) }
-        ensures err { OnErr result (self.new ≡ self.old) }
-        ensures grows { Prefix (T.nodes store.old) (T.nodes store.new) }
-        ensures most { length (T.nodes store.new) ≤ length (T.nodes store.old) + 4 }
-    {
-        let alloc = self.alloc();
-        let old = self.register(dst);
-        let nought = make(store, Form::Const(0))?;
-        let value = lin1(alloc, 0, minus(old))?;
-        let carry = borrow1(alloc, nought, old)?;
-        self.arithmetic(store, None, Some(dst), value, carry)
-    }
+/// `inc`. It overflows where the register holds 2^63 - 1; so where the register less 2^63 - 2 is a bit, that bit is
+/// the overflow flag.
+#[tactic(auto, using(crate::proofs::StepRules::fitting))]
+fn increment<T: Interner>(
+    state: &mut SymState,
+    store: &mut T,
+    dst: Reg,
+) -> Result<Moved, AllocError>
+    requires room { length (T.nodes store.now) ≤ 2 ^ 32 - 9 }
+    requires fits { FitsTable (T.nodes store.now) state.now }
+    ensures step { Leaves 4 (steps.inc_step dst (symbols.node_in state.old dst) (T.nodes store.old)
+        (symbols.with_touch None state.old)) result (T.nodes store.old) (T.nodes store.new) state.old state.new }
+    ensures fixed { T.fixed store.new ≡ T.fixed store.old }
+{
+    let alloc = state.alloc();
+    let old = state.register(dst);
+    let value = lin1(alloc, 1, plus(old))?;
+    let overflow = lin1(alloc, (1 << 63) + 2, plus(old))?;
+    result_and_overflow(state, store, dst, value, overflow)
+}
 
-    /// `not`
-    #[tactic(auto, using(crate::proofs::StepRules::fitting))]
-    fn invert<T: Interner>(&mut self, store: &mut T, dst: Reg) -> Result<(), AllocError>
-        requires room { length (T.nodes store.now) ≤ 2 ^ 32 - 9 }
-        requires fits { FitsTable (T.nodes store.now) self.now }
-        ensures step { OnOk result (steps.goes (T.nodes store.new) self.new ≡ steps.un_step Not dst
-            (symbols.node_in self.old dst) (T.nodes store.old) (symbols.with_touch None self.old)) }
-        ensures part { OnErr result (Prefix (T.nodes store.new)
-            (steps.un_step Not dst (symbols.node_in self.old dst) (T.nodes store.old)
-            (symbols.with_touch None self.old)).table) }
-        ensures err { OnErr result (self.new ≡ self.old) }
-        ensures grows { Prefix (T.nodes store.old) (T.nodes store.new) }
-        ensures most { length (T.nodes store.new) ≤ length (T.nodes store.old) + 4 }
-    {
-        let value = lin1(self.alloc(), u64::MAX, minus(self.register(dst)))?;
-        self.result_only(store, None, dst, value)
-    }
+/// `dec`
+#[tactic(auto, using(crate::proofs::StepRules::fitting))]
+fn decrement<T: Interner>(
+    state: &mut SymState,
+    store: &mut T,
+    dst: Reg,
+) -> Result<Moved, AllocError>
+    requires room { length (T.nodes store.now) ≤ 2 ^ 32 - 9 }
+    requires fits { FitsTable (T.nodes store.now) state.now }
+    ensures step { Leaves 4 (steps.un_step Dec dst (symbols.node_in state.old dst) (T.nodes store.old)
+        (symbols.with_touch None state.old)) result (T.nodes store.old) (T.nodes store.new) state.old state.new }
+    ensures fixed { T.fixed store.new ≡ T.fixed store.old }
+{
+    let value = lin1(state.alloc(), u64::MAX, plus(state.register(dst)))?;
+    result_and_zero(state, store, state.carry(), dst, value)
+}
 
-    /// An operation on one register: `neg` or `not`. It is stuck at the others.
-    #[tactic(auto, using(crate::proofs::StepRules::growing))]
-    pub(crate) fn unary<T: Interner>(
-        &mut self,
-        store: &mut T,
-        op: Un,
-        dst: Reg,
-    ) -> Result<Moved, AllocError>
-        requires room { length (T.nodes store.now) ≤ 2 ^ 32 - 9 }
-        requires fits { FitsTable (T.nodes store.now) self.now }
-        ensures step { IfOk result (λ moved. IsStep moved (steps.un_step op dst (symbols.node_in self.old dst)
-            (T.nodes store.old) (symbols.with_touch None self.old)) (T.nodes store.new) self.old self.new) }
-        ensures part { OnErr result (Prefix (T.nodes store.new)
-            (steps.un_step op dst (symbols.node_in self.old dst) (T.nodes store.old)
-            (symbols.with_touch None self.old)).table) }
-        ensures err { OnErr result (self.new ≡ self.old) }
-        ensures grows { Prefix (T.nodes store.old) (T.nodes store.new) }
-        ensures most { length (T.nodes store.new) ≤ length (T.nodes store.old) + 4 }
-    {
-        match op {
-            Un::Inc | Un::Dec => return Ok(Moved::Stuck),
-            Un::Neg => self.negate(store, dst)?,
-            Un::Not => self.invert(store, dst)?,
-        }
-        Ok(Moved::Done)
+/// `neg`
+#[tactic(auto, unfolding(crate::specs::Steps::neg_step), using(crate::proofs::StepRules::fitting_later))]
+fn negate<T: Interner>(state: &mut SymState, store: &mut T, dst: Reg) -> Result<Moved, AllocError>
+    requires room { length (T.nodes store.now) ≤ 2 ^ 32 - 9 }
+    requires fits { FitsTable (T.nodes store.now) state.now }
+    ensures step { Leaves 4 (steps.neg_step dst (symbols.node_in state.old dst) (T.nodes store.old)
+        (symbols.with_touch None state.old)) result (T.nodes store.old) (T.nodes store.new) state.old state.new }
+    ensures fixed { T.fixed store.new ≡ T.fixed store.old }
+{
+    let alloc = state.alloc();
+    let old = state.register(dst);
+    let nought = make(store, Form::Const(0))?;
+    let value = lin1(alloc, 0, minus(old))?;
+    let carry = borrow1(alloc, nought, old)?;
+    arithmetic(state, store, None, Some(dst), value, carry)
+}
+
+/// `not`
+#[tactic(auto, using(crate::proofs::StepRules::fitting))]
+fn invert<T: Interner>(state: &mut SymState, store: &mut T, dst: Reg) -> Result<Moved, AllocError>
+    requires room { length (T.nodes store.now) ≤ 2 ^ 32 - 9 }
+    requires fits { FitsTable (T.nodes store.now) state.now }
+    ensures step { Leaves 4 (steps.un_step Not dst (symbols.node_in state.old dst) (T.nodes store.old)
+        (symbols.with_touch None state.old)) result (T.nodes store.old) (T.nodes store.new) state.old state.new }
+    ensures fixed { T.fixed store.new ≡ T.fixed store.old }
+{
+    let value = lin1(state.alloc(), u64::MAX, minus(state.register(dst)))?;
+    result_only(state, store, None, dst, value)
+}
+
+/// An operation on one register.
+pub(crate) fn unary_row<T: Interner>(
+    state: &mut SymState,
+    store: &mut T,
+    op: Un,
+    dst: Reg,
+) -> Result<Moved, AllocError>
+    requires room { length (T.nodes store.now) ≤ 2 ^ 32 - 9 }
+    requires fits { FitsTable (T.nodes store.now) state.now }
+    ensures step { Leaves 4 (steps.un_step op dst (symbols.node_in state.old dst) (T.nodes store.old)
+        (symbols.with_touch None state.old)) result (T.nodes store.old) (T.nodes store.new) state.old state.new }
+    ensures fixed { T.fixed store.new ≡ T.fixed store.old }
+{
+    match op {
+        Un::Inc => increment(state, store, dst),
+        Un::Dec => decrement(state, store, dst),
+        Un::Neg => negate(state, store, dst),
+        Un::Not => invert(state, store, dst),
     }
 }

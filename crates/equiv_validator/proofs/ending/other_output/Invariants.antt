@@ -1,6 +1,6 @@
 -- The words so far have their nodes.
 use Rattle.std.proofs.Common.{◌≡◌, take}
-use Rattle.symbolic_values.specs.Written.{words_written}
+use Rattle.symbolic_state.specs.Written.{words_written}
 use Rattle.equiv_validator.specs.Checks as spec
 use Rattle.equiv_validator.proofs.ending.other_output.Given as goal
 

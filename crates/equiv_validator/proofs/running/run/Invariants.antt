@@ -1,7 +1,7 @@
 -- The rest of the run gives what the whole run gives, and each line makes few nodes.
 use Rattle.std.proofs.Common.{◌≡◌, ◌+◌, ◌*◌, ◌≤◌, length, drop}
 use Rattle.terms.specs.Tables.{Prefix}
-use Rattle.symbolic_values.specs.Fitting.{FitsTable}
+use Rattle.symbolic_state.specs.Fitting.{FitsTable}
 use Rattle.equiv_validator.specs.Runs.{run_from}
 use Rattle.equiv_validator.proofs.running.run.Given as goal
 
@@ -13,4 +13,5 @@ invariant-loop-line g l = record {
   fits : FitsTable (g.T.Nodes.nodes l.store) l.state;
   grows : Prefix (g.T.Nodes.nodes l.initial.store) (g.T.Nodes.nodes l.store);
   few : length (g.T.Nodes.nodes l.store) ≤ length (g.T.Nodes.nodes l.initial.store) + 16 * l.line-index;
+  fixed : g.T.Interner.fixed l.store ≡ g.T.Interner.fixed l.initial.store;
 }
