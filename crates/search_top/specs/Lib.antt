@@ -2,7 +2,6 @@
 pub mod Copy
 pub mod Outputs
 pub mod Plain
-pub mod Cost
 pub mod Search
 pub mod Eval
 pub mod Emulate

@@ -18,7 +18,7 @@ use Rattle.command_frame.specs.Change.{Change}
 use Rattle.command_frame.specs.Files.{Content, Program, IsRead}
 use Rattle.command_frame.specs.Writes.{Output}
 use Rattle.search_top.specs.Plain.{plain_lines, plain_listing}
-use Rattle.search_top.specs.Cost.{cost_of}
+use Rattle.cost_table.specs.Costs.{cost_of}
 
 -- what is said of a program: the cost of its plain listing
 abbrev pub opening_text : Source → List ℕ

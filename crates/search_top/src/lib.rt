@@ -11,7 +11,6 @@
 mod check_command;
 mod commands;
 mod copy;
-mod cost;
 mod emulate_command;
 mod emulation;
 mod eval_command;

@@ -11,9 +11,10 @@ ghost use Rattle.search_top.specs.Plain.{plain_lines, plain_listing};
 ghost use Rattle.search_top.specs.Search.{ReadsBack, SearchMeans, SearchRefuses, opening_text};
 
 use crate::copy::copy_form;
-use crate::{cost, plain};
+use crate::plain;
 use asm_text::write;
 use command_frame::Status;
+use cost_table::cost;
 use std::alloc::{AllocError, Global};
 use word_program::{Place, Program, Section, codes};
 
@@ -61,7 +62,7 @@ fn plain_opening(alloc: Global, program: &Program) -> Result<Opening, AllocError
     ensures correct { IfOk result (λ o. IsCorrect program.now (plain_lines program.now)) }
 {
     let listing = plain::plain_listing(alloc, program)?;
-    let cost = cost::cost_of(listing.lines());
+    let cost = cost(&listing);
     let text = write(alloc, &listing)?;
     let line = opening_line(alloc, cost)?;
     Ok(Opening { text, line })

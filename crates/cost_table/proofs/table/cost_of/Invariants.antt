@@ -1,7 +1,7 @@
 -- The loop over the lines.
 use Rattle.std.proofs.Common.{◌≡◌, ◌*◌, ◌≤◌, take}
-use Rattle.search_top.specs.Cost.{cost_of as cost_spec}
-use Rattle.search_top.proofs.cost.cost_of.Given as goal
+use Rattle.cost_table.specs.Costs.{cost_of as cost_spec}
+use Rattle.cost_table.proofs.table.cost_of.Given as goal
 
 -- the cost of the lines so far
 abbrev pub invariant-loop-line : goal.invariant-loop-line

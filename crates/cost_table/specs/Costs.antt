@@ -1,5 +1,5 @@
--- The cost of a listing, from a table of this project: what its lines cost, added up. A line costs the base of its
--- instruction, 4 more where it reads memory, and 2 more where it writes memory.
+-- The cost of a listing, from a table of this project; it is not a time. What its lines cost, added up: a line costs
+-- the base of its instruction, 4 more where it reads memory, and 2 more where it writes memory.
 use Rattle.std.specs.Prelude.{ℕ, ◌+◌, List, sum_by}
 use Rattle.x86_instr.specs.declared.access.Access.{Access}
 use Rattle.x86_instr.specs.declared.access.Access.TheVariants as accesses

@@ -1,11 +1,20 @@
 ghost use Rattle.std.specs.Prelude.{◌≡◌, ◌≤◌, length};
-ghost use Rattle.search_top.specs.Cost as spec;
+ghost use Rattle.base.specs.declared.limits.TheConstants.{MAX_LINES};
+ghost use Rattle.cost_table.specs.Costs as spec;
 
-use x86_instr::{Access, Instr, Line};
+use x86_instr::{Access, Instr, Line, Listing};
 
-/// The cost of lines, of which there are at most 65,536.
-pub fn cost_of(lines: &[Line]) -> u64
-    requires { length lines.now ≤ 65536 }
+/// What a listing costs: of each line the base of its instruction, 4 more where it reads memory, and 2 more where it
+/// writes memory. The base is 4 for `mulx` and `mul`, 3 for `imul` and `shrd`, and 1 for every other. It is no time,
+/// but an estimate by which listings are compared.
+pub fn cost(listing: &Listing) -> u64
+    ensures { result ≡ spec.cost_of listing.now.lines }
+{
+    cost_of(listing.lines())
+}
+
+fn cost_of(lines: &[Line]) -> u64
+    requires { length lines.now ≤ MAX_LINES }
     ensures { result ≡ spec.cost_of lines.now }
 {
     let mut cost = 0;
