@@ -1,6 +1,6 @@
 //! `check`: listings that are proved, and the first failure of those that are not.
 use crate::calls::{Files, Left, leaves, refuses};
-use crate::programs::{ADD1, COPY1, COPY1_TEXT, COPY2, function};
+use crate::programs::{ADD1, CHAIN2, CHAIN2_TEXT, COPY1, COPY1_TEXT, COPY2, function};
 use std::alloc::{AllocError, Global};
 use std::test::Fail;
 
@@ -28,6 +28,24 @@ fn says_that_a_listing_is_proved(rt: HostRuntime) -> Result<(), Fail> {
                 mov rcx, 0\nadc rcx, 0\nmov [rdi + 8], rcx\nret\n";
     let asm = function(rt.alloc(), body)?;
     assert!(rt; is_proved(rt.alloc(), ADD1, asm.as_str())?);
+    Ok(())
+}
+
+// Two chains, each in a flag of its own; with an addition between them that ends the one in the overflow flag.
+#[test]
+fn follows_two_carry_chains(rt: HostRuntime) -> Result<(), Fail> {
+    assert!(rt; is_proved(rt.alloc(), CHAIN2, CHAIN2_TEXT)?);
+    let broken = CHAIN2_TEXT.replace(
+        rt.alloc(),
+        "    adcx rax, qword ptr [rdx + 8]\n",
+        "    add r8, 1\n    adcx rax, qword ptr [rdx + 8]\n",
+    )?;
+    let files = Files {
+        program: CHAIN2.as_bytes(),
+        asm: broken.as_bytes(),
+    };
+    let row = "check p.json p.s => 10 not proved: stuck at 12";
+    assert!(rt; refuses(rt.alloc(), files, row, 2)?);
     Ok(())
 }
 

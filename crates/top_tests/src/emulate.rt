@@ -34,6 +34,22 @@ fn says_the_words_that_the_listing_leaves(rt: HostRuntime) -> Result<(), Fail> {
     Ok(())
 }
 
+// The carry is put into the overflow flag by `inc`, taken by `adox`, and read by `seto`.
+#[test]
+fn carries_through_the_overflow_flag(rt: HostRuntime) -> Result<(), Fail> {
+    let body = "mov r10, 9223372036854775806\nlea r10, [r10 + rsi]\ninc r10\nmov rax, rdx\n\
+                adox rax, rcx\nmov [rdi], rax\nseto cl\nmovzx rcx, cl\nmov [rdi + 8], rcx\nret\n";
+    let asm = function(rt.alloc(), body)?;
+    let files = Files {
+        program: ADD1.as_bytes(),
+        asm: asm.as_bytes(),
+    };
+    let line = "emulate p.json p.s --in 1,0xffffffffffffffff,0";
+    let said = "out1[0] 0x0000000000000000\nout1[1] 0x0000000000000001\n";
+    assert!(rt; says(rt.alloc(), files, line, said)?);
+    Ok(())
+}
+
 // Each row has the lines of a listing for the copy of the word 7, and the word that it leaves: in order, a copy
 // through a preserved register; an output cell as it was; registers without a use; the stack pointer; the place
 // of the input array; a cell of the frame; and the return cell.

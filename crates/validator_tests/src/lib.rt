@@ -11,6 +11,8 @@ mod limits;
 #[cfg(test)]
 mod nodes;
 #[cfg(test)]
+mod p256;
+#[cfg(test)]
 mod programs;
 #[cfg(test)]
 mod reading;

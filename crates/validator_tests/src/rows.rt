@@ -6,6 +6,10 @@ use std::test::Fail;
 // A program, a listing's lines, and the verdict: an output word has its number, the program's node and the listing's.
 const ROWS: &str = "\
 add1 | mov rax, rdx; add rsi, -1; adc rax, rcx; mov [rdi], rax; mov rcx, 0; adc rcx, 0; mov [rdi + 8], rcx; ret | proved
+add1 | mov r10, 9223372036854775806; lea r10, [r10 + rsi]; inc r10; mov rax, rdx; adox rax, rcx; mov [rdi], rax; \
+    seto cl; movzx rcx, cl; mov [rdi + 8], rcx; ret | proved
+add1 | mov r10, 9223372036854775806; lea r10, [r10 + rsi]; add r10, 1; mov rax, rdx; adox rax, rcx; mov [rdi], rax; \
+    seto cl; movzx rcx, cl; mov [rdi + 8], rcx; ret | stuck 5
 add1 | mov rax, rdx; adc rax, rcx; mov [rdi], rax; mov rcx, 0; adc rcx, 0; mov [rdi + 8], rcx; ret | stuck 2
 add1 | mov rax, rdx; test rsi, rsi; adc rax, rcx; mov [rdi], rax; ret | output 0 19 23
 copy2 | mov rax, [rsi]; mov [rdi], rax; mov rax, [rsi + 8]; mov [rdi + 8], rax; ret | proved

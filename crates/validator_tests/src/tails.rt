@@ -6,7 +6,6 @@ use equiv_validator::{Prepared, check_on};
 use std::alloc::{AllocError, Global};
 use std::test::Fail;
 use term_store::Tail;
-use terms::Nodes;
 use x86_instr::Listing;
 
 // Whether the check of these lines ends with this verdict and leaves so many nodes behind the program's.
@@ -27,15 +26,11 @@ fn leaves(
 }
 
 // Whether a second check, on the tail of the first one, ends like it and leaves as many nodes.
-#[tactic(auto, using(crate::proofs::Again::base_stays))]
 fn repeats(alloc: Global, prepared: &Prepared, listing: &Listing) -> Result<bool, AllocError> {
     let mut tail = Tail::new(alloc, prepared.base());
     let first = check_on(alloc, prepared, &mut tail, listing)?;
     let own = tail.own();
     tail.clear();
-    if tail.count() != prepared.base().count() {
-        return Ok(false);
-    }
     let second = check_on(alloc, prepared, &mut tail, listing)?;
     Ok(first == second && tail.own() == own)
 }

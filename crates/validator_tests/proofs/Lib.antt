@@ -1,2 +1,0 @@
--- The lemmas of this crate, one subject a file.
-mod Again
