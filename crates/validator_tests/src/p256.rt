@@ -271,12 +271,13 @@ fn program(alloc: Global) -> Result<String, AllocError> {
         r#"{"operation":"p256_mul","returns":[{"name":"out1","datatype":"u64[4]"}],
 "arguments":[{"name":"arg1","datatype":"u64[4]"},{"name":"arg2","datatype":"u64[4]"}],"body":["#,
     )?;
-    let mut separator = "";
-    for row in OPERATIONS.lines() {
+    let (first, rest) = OPERATIONS.split_once("\n").unwrap_or((OPERATIONS, ""));
+    let first = operation_of(alloc, first)?;
+    text.push_str(first.as_str())?;
+    for row in rest.lines() {
         let operation = operation_of(alloc, row)?;
-        text.push_str(separator)?;
+        text.push_str(",")?;
         text.push_str(operation.as_str())?;
-        separator = ",";
     }
     text.push_str("]}")?;
     Ok(text)
