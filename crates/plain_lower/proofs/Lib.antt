@@ -1,0 +1,6 @@
+-- The lemmas of this crate.
+pub mod SlotOps
+pub mod Parts
+pub mod BlockParts
+pub mod Whole
+pub mod Templates
