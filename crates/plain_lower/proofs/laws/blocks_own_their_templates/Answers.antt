@@ -1,6 +1,6 @@
--- The law, from the lemma on rows.
-use Rattle.plain_lower.proofs.Templates.{row_owns}
+-- The law, from the lemma on templates.
+use Rattle.plain_lower.proofs.Templates.{template_owned}
 use Rattle.plain_lower.proofs.laws.blocks_own_their_templates.Goals as goal
 
 pub returns : goal.returns
-returns c = row_owns
+returns c = template_owned
