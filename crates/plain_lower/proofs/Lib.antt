@@ -4,3 +4,4 @@ pub mod Parts
 pub mod BlockParts
 pub mod Whole
 pub mod Templates
+pub mod FirstValues

@@ -2,8 +2,8 @@
 -- registers, computes there, and stores the results. The instructions are those of the Intel Software Developer's
 -- Manual, volume 2, each under its own name.
 use Rattle.std.specs.Prelude.{ℕ, ◌+◌, ◌-◌, List, [], ◌∷◌, ◌++◌, Some, pos, negsuc, slice_get}
-use Rattle.std.specs.Prelude.{slice_index_or}
-use Rattle.std.specs.List.{flat_map}
+use Rattle.std.specs.Prelude.{length, map, slice_index_or}
+use Rattle.std.specs.List.{flat_map, range_with_len}
 use Rattle.std.specs.Option.{option_map_or}
 use Rattle.word_operations.specs.declared.kind.Kind.{Kind}
 use Rattle.word_operations.specs.declared.kind.Kind.TheVariants as kinds
@@ -228,6 +228,10 @@ unfoldable pub row_of : Kind → ℕ → Row
 row_of kind template = slice_index_or (rows_of kind) template no_row
 
 -- ---- blocks
+
+-- the value number of the first result of each operation
+unfoldable pub firsts_of : Source → List ℕ
+firsts_of program = map (first_value program) (range_with_len 0 (length program.ops))
 
 abbrev pub arg_at : Op → ℕ → Operand
 arg_at op place = slice_index_or op.args place (operands.Literal 0)

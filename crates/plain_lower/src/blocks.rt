@@ -7,7 +7,6 @@ ghost use Rattle.plain_lower.specs.Blocks as spec;
 use crate::frame::{push_load, push_store};
 use crate::middles::push_middle;
 use crate::rows::{Place, loads_of, saves_of};
-use dependency_graph::first_value;
 use op_order::Slot;
 use std::alloc::AllocError;
 use word_program::{Op, Operand, Program, Target};
@@ -66,20 +65,34 @@ fn push_stores(
     Ok(())
 }
 
+/// The value number of the first result of an operation.
+#[tactic(auto, using(crate::proofs::FirstValues::firsts_count, crate::proofs::FirstValues::first_at, crate::proofs::FirstValues::first_few))]
+fn first_of(program: &Program, firsts: &[u32], op: u16) -> u32
+    requires firsts { firsts.now ≡ spec.firsts_of program.now }
+    requires op { op < length program.now.ops }
+    ensures first { result ≡ first_value program.now op }
+    ensures few { result ≤ 4096 }
+{
+    let _ops = program.ops();
+    firsts[op as usize]
+}
+
 /// The block of an operation by the template with this number.
 fn push_block_of(
     lines: &mut Lines,
     program: &Program,
+    firsts: &[u32],
     slot: Slot,
     op: &Op,
 ) -> Result<(), AllocError>
     requires accepted { IsAccepted program.now }
+    requires firsts { firsts.now ≡ spec.firsts_of program.now }
     requires op { slot.op < length program.now.ops }
     requires count { HasShift op.now.kind }
     ensures { OnOk result (lines.new ≡ lines.old
         ++ spec.block_of program.now slot.op (spec.row_of op.now.kind slot.template) op.now) }
 {
-    let value = first_value(program, slot.op);
+    let value = first_of(program, firsts, slot.op);
     push_loads(lines, program, op, loads_of(op.kind, slot.template))?;
     push_middle(lines, slot.op, op.kind, slot.template)?;
     push_stores(lines, program, value, op, saves_of(op.kind, slot.template))
@@ -87,9 +100,21 @@ fn push_block_of(
 
 /// The block of a slot.
 #[tactic(auto, unfolding(crate::specs::Blocks::block))]
-pub fn push_block(lines: &mut Lines, program: &Program, slot: Slot) -> Result<(), AllocError>
-    requires { slot.op < length program.now.ops }
+pub fn push_block(
+    lines: &mut Lines,
+    program: &Program,
+    firsts: &[u32],
+    slot: Slot,
+) -> Result<(), AllocError>
+    requires firsts { firsts.now ≡ spec.firsts_of program.now }
+    requires op { slot.op < length program.now.ops }
     ensures { OnOk result (lines.new ≡ lines.old ++ spec.block program.now slot) }
 {
-    push_block_of(lines, program, slot, &program.ops()[slot.op as usize])
+    push_block_of(
+        lines,
+        program,
+        firsts,
+        slot,
+        &program.ops()[slot.op as usize],
+    )
 }

@@ -7,6 +7,7 @@
 #![tactic(auto)]
 
 mod blocks;
+mod firsts;
 mod frame;
 mod instrs;
 mod laws;

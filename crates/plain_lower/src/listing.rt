@@ -5,8 +5,10 @@ ghost use Rattle.x86_instr.specs.declared.operand.Src.TheVariants as srcs;
 ghost use Rattle.op_order.specs.Legal.{IsLegal};
 ghost use Rattle.plain_lower.specs.Plain as spec;
 ghost use Rattle.plain_lower.specs.Frame as frame;
+ghost use Rattle.plain_lower.specs.Blocks as blocks;
 
 use crate::blocks::push_block;
+use crate::firsts::first_values;
 use crate::frame::push_store_late;
 use crate::lines::{unowned, word_at};
 use op_order::{Plan, Slot};
@@ -40,7 +42,8 @@ fn plain_lines(alloc: Global, program: &Program, slots: &[Slot]) -> Result<Lines
 {
     let mut lines = Lines::new(alloc);
     push_entry(&mut lines, program)?;
-    push_blocks(&mut lines, program, slots)?;
+    let firsts = first_values(alloc, program)?;
+    push_blocks(&mut lines, program, firsts.as_slice(), slots)?;
     push_late_stores(&mut lines, program)?;
     push_exit(&mut lines, program)?;
     Ok(lines)
@@ -82,12 +85,18 @@ fn push_entry(lines: &mut Lines, program: &Program) -> Result<(), AllocError>
 }
 
 /// The blocks of slots.
-fn push_blocks(lines: &mut Lines, program: &Program, slots: &[Slot]) -> Result<(), AllocError>
-    requires { All (λ slot. slot.op < length program.now.ops) slots.now }
+fn push_blocks(
+    lines: &mut Lines,
+    program: &Program,
+    firsts: &[u32],
+    slots: &[Slot],
+) -> Result<(), AllocError>
+    requires firsts { firsts.now ≡ blocks.firsts_of program.now }
+    requires ops { All (λ slot. slot.op < length program.now.ops) slots.now }
     ensures { OnOk result (lines.new ≡ lines.old ++ spec.blocks program.now slots.now) }
 {
     for slot in slots {
-        push_block(lines, program, *slot)?;
+        push_block(lines, program, firsts, *slot)?;
     }
     Ok(())
 }

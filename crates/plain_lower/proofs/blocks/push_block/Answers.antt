@@ -6,11 +6,11 @@ use Rattle.plain_lower.proofs.blocks.push_block.Goals as goal
 
 pub push_block_of-requires-clause-count : goal.push_block_of-requires-clause-count
 push_block_of-requires-clause-count c =
-    has_shift c.args.program.now c.ops.ensures.accepted c.ops.result.now c.ops.ensures.ops c.args.slot.op _ _ c.requires
-    c.index-ops-slot.is
+    has_shift c.args.program.now c.ops.ensures.accepted c.ops.result.now c.ops.ensures.ops c.args.slot.op _ _
+    c.requires.op c.index-ops-slot.is
 
 pub returns : goal.returns
 returns c =
     subst (λ (block : List Line). OnOk c.push_block_of.result (c.push_block_of.new.lines ≡ c.args.lines.now ++ block))
-    (sym (block_is c.args.program.now c.args.slot c.ops.result.now c.ops.ensures.ops _ _ c.requires
+    (sym (block_is c.args.program.now c.args.slot c.ops.result.now c.ops.ensures.ops _ _ c.requires.op
     c.index-ops-slot.is)) c.push_block_of.ensures
