@@ -3,3 +3,4 @@ pub mod Induction
 pub mod OutputNodes
 pub mod ProvedCorrect
 pub mod AtEnd
+pub mod OwnedLines

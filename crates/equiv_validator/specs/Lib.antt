@@ -3,3 +3,6 @@ pub mod Preparing
 pub mod Runs
 pub mod Checks
 pub mod Ended
+pub mod Kept
+pub mod Answers
+pub mod Owned

@@ -4,7 +4,8 @@ use equiv_validator::{Verdict, Why, check};
 use std::alloc::{AllocError, Global};
 use std::test::Fail;
 
-fn failure_text(alloc: Global, why: Why) -> Result<String, AllocError> {
+// A failure's name, with its numbers behind it.
+pub fn failure_text(alloc: Global, why: Why) -> Result<String, AllocError> {
     match why {
         Why::Stuck { line } => format!(in alloc; "stuck {line}"),
         Why::Output {

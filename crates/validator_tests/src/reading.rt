@@ -8,11 +8,10 @@ use std::test::Fail;
 use word_program::Program;
 use x86_instr::Listing;
 
-const HEADER: &str = ".intel_syntax noprefix\n.text\n.globl f\nf:\n";
-
-// The listing of these lines, of which no text has more than 1,048,576 bytes.
-pub fn listing_of(alloc: Global, lines: &str) -> Result<Option<Listing>, Fail> {
-    let text = format!(in alloc; "{HEADER}{lines}\n")?;
+// The listing of these lines under this name, of which no text has more than 1,048,576 bytes.
+pub fn named_listing(alloc: Global, name: &str, lines: &str) -> Result<Option<Listing>, Fail> {
+    let header = format!(in alloc; ".intel_syntax noprefix\n.text\n.globl {name}\n{name}:")?;
+    let text = format!(in alloc; "{}\n{lines}\n", header.as_str())?;
     if text.len() > 1_048_576 {
         return Ok(None);
     }
@@ -20,6 +19,11 @@ pub fn listing_of(alloc: Global, lines: &str) -> Result<Option<Listing>, Fail> {
         Ok(listing) => Ok(Some(listing)),
         Err(_) => Ok(None),
     }
+}
+
+// The same under the name `f`.
+pub fn listing_of(alloc: Global, lines: &str) -> Result<Option<Listing>, Fail> {
+    named_listing(alloc, "f", lines)
 }
 
 // The program of this text, which has at most 1,048,576 bytes.
