@@ -2,7 +2,7 @@
 use crate::programs::program;
 use asm_text::write;
 use cost_table::cost;
-use mutations::{Mutation, apply, drawn, words};
+use mutations::{Draw, Mutation, apply, drawn, words};
 use op_order::Plan;
 use plain_lower::plain;
 use std::alloc::{AllocError, Global};
@@ -163,7 +163,7 @@ fn blocks_stand_in_the_order_of_the_plan(rt: HostRuntime) -> Result<(), Fail> {
     let mut plan = Plan::opening(rt.alloc(), &program)?;
     assert!(rt; plan.slots().len() == 4);
     // Turn 4 of the seed 1 moves slot 1 to the place 2.
-    let mutation = drawn(&program, &plan, words(1, 4));
+    let mutation = drawn(&program, &plan, words(1, 4), Draw::One);
     apply(&program, mutation, &mut plan);
     let listing = plain(rt.alloc(), &program, &plan)?;
     assert_eq!(rt;

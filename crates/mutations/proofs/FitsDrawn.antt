@@ -11,8 +11,9 @@ use Rattle.op_order.specs.Legal.{IsLegal}
 use Rattle.op_order.specs.Windows.{low_of, high_of}
 use Rattle.op_order.proofs.LegalLemmas.{legal_count, legal_op, has_template_at}
 use Rattle.op_order.proofs.WindowLaw.{low_below, high_is}
-use Rattle.mutations.specs.declared.mutation.Mutation.TheVariants.{Move, Template, Swap, Load}
-use Rattle.mutations.specs.Mutations.{Fits, drawn, place_drawn}
+use Rattle.mutations.specs.declared.mutation.Draw.{Draw}
+use Rattle.mutations.specs.declared.mutation.Mutation.TheVariants.{Move, Template, Swap, Load, Chain}
+use Rattle.mutations.specs.Mutations.{Fits, drawn, kinds_of, place_drawn}
 
 -- what is left after a division
 rest_below : (word n : ℕ) → 0 < n → word % n < n
@@ -54,23 +55,32 @@ template_fits p slots slot word number legal w e =
     (has_template_at p (op_at slots slot) (legal_op p slots legal slot w)) in
     (w, omega arith)
 
-kind_fits : (p : Source) (slots : List Slot) (a b c : Bool) (slot word : ℕ) → IsLegal p slots → slot < length slots
-    → Fits p slots (if a then Move slot (place_drawn p slots slot word)
-    else (if b then Template slot (word % count_of p (op_at slots slot)) else (if c then Swap slot else Load slot)))
+-- the template of a chain is 1 or 2
+pub chain_fits : (p : Source) (slots : List Slot) (slot word : ℕ) → slot < length slots
+    → Fits p slots (Chain slot (1 + word % 2))
 unfolding Fits
-kind_fits p slots true b c slot word legal w = move_fits p slots slot word _ legal w refl
-kind_fits p slots false true c slot word legal w = template_fits p slots slot word _ legal w refl
-kind_fits p slots false false true slot word legal w = w
-kind_fits p slots false false false slot word legal w = w
+chain_fits p slots slot word w = let below = rest_below word 2 (omega arith) in (w, omega arith, omega arith)
+
+kind_fits : (p : Source) (slots : List Slot) (a b c d : Bool) (slot word : ℕ) → IsLegal p slots → slot < length slots
+    → Fits p slots (if a then Move slot (place_drawn p slots slot word)
+    else (if b then Template slot (word % count_of p (op_at slots slot))
+    else (if c then Swap slot else (if d then Load slot else Chain slot (1 + word % 2)))))
+unfolding Fits
+kind_fits p slots true b c d slot word legal w = move_fits p slots slot word _ legal w refl
+kind_fits p slots false true c d slot word legal w = template_fits p slots slot word _ legal w refl
+kind_fits p slots false false true d slot word legal w = w
+kind_fits p slots false false false true slot word legal w = w
+kind_fits p slots false false false false slot word legal w = chain_fits p slots slot word w
 
 -- the mutation that words draw fits a legal plan
-pub drawn_fits : (p : Source) (slots : List Slot) (words : List ℕ) → IsAccepted p → IsLegal p slots
-    → Fits p slots (drawn p slots words)
+pub drawn_fits : (p : Source) (slots : List Slot) (words : List ℕ) (draw : Draw) → IsAccepted p → IsLegal p slots
+    → Fits p slots (drawn p slots words draw)
 unfolding drawn
-drawn_fits p slots words accepted legal =
+drawn_fits p slots words draw accepted legal =
     let n = slice_index words 1 in
+    let kind : ℕ = slice_index words 0 % kinds_of draw in
     let there = slot_there p slots n legal accepted.some_ops in
     let within : n % length slots < length slots =
     subst (λ (k : ℕ). k < length slots) (slot_is p slots n legal) there in
-    kind_fits p slots (slice_index words 0 % 4 == 0) (slice_index words 0 % 4 == 1) (slice_index words 0 % 4 == 2)
+    kind_fits p slots (kind == 0) (kind == 1) (kind == 2) (kind == 3)
     (n % length slots) (slice_index words 2) legal within

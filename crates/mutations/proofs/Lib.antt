@@ -1,3 +1,5 @@
 -- The lemmas of this crate.
+pub mod ChainLemmas
+pub mod Marking
 pub mod Applied
 pub mod FitsDrawn

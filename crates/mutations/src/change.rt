@@ -4,6 +4,7 @@ ghost use Rattle.op_order.specs.Legal.{IsLegal};
 ghost use Rattle.op_order.specs.Plans.{op_at};
 ghost use Rattle.mutations.specs.Mutations as spec;
 
+use crate::chains::set_chain;
 use crate::mutation::Mutation;
 use op_order::{Plan, Slot};
 use word_program::{Kind, Program};
@@ -69,7 +70,8 @@ fn toggle_load_at(plan: &mut Plan, slot: u16)
 }
 
 /// Carries out a mutation of a legal plan. Its numbers are in range, and a slot moves within its window, as those of
-/// a drawn mutation do. It takes no memory, and time that grows with the number of slots.
+/// a drawn mutation do, and the template of a chain is 1 or 2. It takes no memory, and time that grows with the number
+/// of slots.
 #[tactic(auto, unfolding(crate::specs::Mutations::applied, crate::specs::Mutations::Fits))]
 pub fn apply(program: &Program, mutation: Mutation, plan: &mut Plan)
     requires legal { IsLegal program.now plan.old.slots }
@@ -83,5 +85,6 @@ pub fn apply(program: &Program, mutation: Mutation, plan: &mut Plan)
         Mutation::Template { slot, number } => set_template(plan, slot, number),
         Mutation::Swap { slot } => toggle_swap_at(program, plan, slot),
         Mutation::Load { slot } => toggle_load_at(plan, slot),
+        Mutation::Chain { slot, number } => set_chain(program, plan, slot, number),
     }
 }

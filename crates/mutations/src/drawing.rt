@@ -4,7 +4,7 @@ ghost use Rattle.op_order.specs.Legal.{IsLegal};
 ghost use Rattle.op_order.specs.Plans.{op_at};
 ghost use Rattle.mutations.specs.Mutations as spec;
 
-use crate::mutation::Mutation;
+use crate::mutation::{Draw, Mutation};
 use op_order::{Plan, window};
 use templates::count;
 use word_program::Program;
@@ -30,7 +30,7 @@ fn template_drawn(program: &Program, plan: &Plan, slot: u16, word: u32) -> u8
     (word % count(program, op) as u32) as u8
 }
 
-/// The mutation of this kind, of four, and of this slot, with the place or the template that a word draws.
+/// The mutation of this kind, of five, and of this slot, with the place or the template that a word draws.
 #[tactic(auto, unfolding(crate::specs::Mutations::Fits))]
 fn mutation_of(program: &Program, plan: &Plan, kind: u32, slot: u16, word: u32) -> Mutation
     requires legal { IsLegal program.now plan.now.slots }
@@ -48,7 +48,22 @@ fn mutation_of(program: &Program, plan: &Plan, kind: u32, slot: u16, word: u32) 
             number: template_drawn(program, plan, slot, word),
         },
         2 => Mutation::Swap { slot },
-        _ => Mutation::Load { slot },
+        3 => Mutation::Load { slot },
+        _ => Mutation::Chain {
+            slot,
+            number: 1 + (word % 2) as u8,
+        },
+    }
+}
+
+/// How many kinds of mutation are drawn.
+fn kinds_of(draw: Draw) -> u32
+    ensures kinds { result ≡ spec.kinds_of draw }
+    ensures some { 0 < result }
+{
+    match draw {
+        Draw::One => 4,
+        Draw::Two => 5,
     }
 }
 
@@ -63,14 +78,14 @@ fn slot_drawn(program: &Program, plan: &Plan, word: u32) -> u16
 }
 
 /// The mutation of a legal plan that four words draw: the first one its kind, the second its slot, and the third the
-/// place in the slot's window to which it moves, or its template. It takes no memory, and time that grows with the
-/// numbers of slots and operations.
+/// place in the slot's window to which it moves, or its template, or that of a chain. It takes no memory, and time
+/// that grows with the numbers of slots and operations.
 #[tactic(auto, unfolding(crate::specs::Mutations::drawn))]
-pub fn drawn(program: &Program, plan: &Plan, words: [u32; 4]) -> Mutation
+pub fn drawn(program: &Program, plan: &Plan, words: [u32; 4], draw: Draw) -> Mutation
     requires { IsLegal program.now plan.now.slots }
-    ensures mutation { result ≡ spec.drawn program.now plan.now.slots words }
+    ensures mutation { result ≡ spec.drawn program.now plan.now.slots words draw }
     ensures fits { spec.Fits program.now plan.now.slots result }
 {
     let slot = slot_drawn(program, plan, words[1]);
-    mutation_of(program, plan, words[0] % 4, slot, words[2])
+    mutation_of(program, plan, words[0] % kinds_of(draw), slot, words[2])
 }

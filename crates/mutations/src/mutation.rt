@@ -1,3 +1,12 @@
+/// Which kinds of mutation are drawn.
+#[derive(Clone, Copy, Debug, PartialEq, Eq)]
+pub enum Draw {
+    /// `Move`, `Template`, `Swap` and `Load`.
+    One,
+    /// These four, and `Chain`.
+    Two,
+}
+
 /// One change of a plan. Slots are numbered by their places, from 0.
 #[derive(Clone, Copy, Debug, PartialEq, Eq)]
 pub enum Mutation {
@@ -9,4 +18,7 @@ pub enum Mutation {
     Swap { slot: u16 },
     /// The slot's mark `load_first` is turned.
     Load { slot: u16 },
+    /// Where the slot's operation is an `addcarryx`, each operation of its chain of carries gets the template with
+    /// this number: 1 is `adcx`, and 2 is `adox`.
+    Chain { slot: u16, number: u8 },
 }

@@ -1,6 +1,8 @@
 //! Plans, their windows, and mutations of them.
+ghost use Rattle.std.specs.Prelude.{◌≤◌};
+
 use crate::programs::{CHAIN2, parts};
-use mutations::{Mutation, apply, drawn, words};
+use mutations::{Draw, Mutation, apply, drawn, words};
 use op_order::{Plan, Slot, window};
 use std::alloc::{AllocError, Global};
 use std::test::Fail;
@@ -169,7 +171,7 @@ fn mutations_are_drawn(rt: HostRuntime) -> Result<(), Fail> {
     let plan = Plan::opening(rt.alloc(), &program)?;
     for (turn, expected) in DRAWN {
         assert_eq!(rt;
-            drawn(&program, &plan, words(0, *turn)),
+            drawn(&program, &plan, words(0, *turn), Draw::One),
             *expected,
             "{turn}"
         );
@@ -178,10 +180,67 @@ fn mutations_are_drawn(rt: HostRuntime) -> Result<(), Fail> {
 }
 
 #[test]
+#[tactic(auto, unfolding(mutations::specs::Mutations::Fits))]
+fn the_chain_of_a_copy_leaves_the_plan(rt: HostRuntime) -> Result<(), Fail> {
+    let program = program(rt.alloc(), "u64[8]", MUL4)?;
+    let mut plan = Plan::opening(rt.alloc(), &program)?;
+    let mut before = Plan::opening(rt.alloc(), &program)?;
+    assert!(rt; plan.slots().len() == 55);
+    let mutation = drawn(&program, &plan, words(0, 0), Draw::Two);
+    let chain = Mutation::Chain {
+        slot: 51,
+        number: 1,
+    };
+    assert_eq!(rt; mutation, chain);
+    apply(&program, mutation, &mut plan);
+    assert!(rt; plan.same(&before));
+    Ok(())
+}
+
+fn templates_of(plan: &Plan, alloc: Global) -> Result<Vec<u8>, AllocError> {
+    let mut templates = Vec::new(alloc);
+    for slot in plan.slots() {
+        templates.push(slot.template)?;
+    }
+    Ok(templates)
+}
+
+/// The templates of the slots of `examples/chain2.json` after a chain of its opening plan.
+#[tactic(auto, unfolding(mutations::specs::Mutations::Fits))]
+fn templates_after(alloc: Global, slot: u16, number: u8) -> Result<Vec<u8>, Fail>
+    requires slot { slot ≤ 3 }
+    requires number { (1 ≤ number) × (number ≤ 2) }
+{
+    let program = program(alloc, "u64[4]", CHAIN2)?;
+    let mut plan = Plan::opening(alloc, &program)?;
+    if plan.slots().len() == 4 {
+        apply(&program, Mutation::Chain { slot, number }, &mut plan);
+    }
+    Ok(templates_of(&plan, alloc)?)
+}
+
+#[test]
+fn a_chain_gets_one_template(rt: HostRuntime) -> Result<(), Fail> {
+    assert_eq!(rt;
+        templates_after(rt.alloc(), 0, 2)?.as_slice(),
+        [2, 0, 2, 0].as_slice()
+    );
+    assert_eq!(rt;
+        templates_after(rt.alloc(), 1, 1)?.as_slice(),
+        [0, 1, 0, 1].as_slice()
+    );
+    assert_eq!(rt;
+        templates_after(rt.alloc(), 2, 1)?.as_slice(),
+        [0, 0, 1, 0].as_slice()
+    );
+    Ok(())
+}
+
+#[test]
 fn turn_4_of_the_seed_1_puts_a_chain_forward(rt: HostRuntime) -> Result<(), Fail> {
     let program = program(rt.alloc(), "u64[4]", CHAIN2)?;
     let mut plan = Plan::opening(rt.alloc(), &program)?;
-    let mutation = drawn(&program, &plan, words(1, 4));
+    let mutation = drawn(&program, &plan, words(1, 4), Draw::One);
     assert_eq!(rt; mutation, Mutation::Move { slot: 1, to: 2 });
     apply(&program, mutation, &mut plan);
     assert_eq!(rt;
@@ -200,7 +259,7 @@ fn a_swap_of_a_copy_leaves_the_plan(rt: HostRuntime) -> Result<(), Fail> {
     let mut before = Plan::with_room(rt.alloc(), 60)?;
     assert!(rt; plan.slots().len() <= before.room() as usize);
     plan.copy_into(&mut before);
-    let mutation = drawn(&program, &plan, words(0, 0));
+    let mutation = drawn(&program, &plan, words(0, 0), Draw::One);
     apply(&program, mutation, &mut plan);
     assert!(rt; plan.same(&before));
     assert!(rt; plan.slots().len() == 55);

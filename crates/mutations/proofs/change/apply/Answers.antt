@@ -1,7 +1,7 @@
 -- A mutation that fits leaves a legal plan, kind by kind.
 use Rattle.std.proofs.Common.{ap, subst}
-use Rattle.op_order.proofs.LegalLemmas.{legal_op}
-use Rattle.mutations.specs.declared.mutation.Mutation.TheVariants.{Move, Template, Swap, Load}
+use Rattle.op_order.proofs.LegalLemmas.{legal_op, legal_ops}
+use Rattle.mutations.specs.declared.mutation.Mutation.TheVariants.{Move, Template, Swap, Load, Chain}
 use Rattle.mutations.specs.Mutations.{applied, Fits}
 use Rattle.mutations.proofs.Applied.{move_within, legal_after}
 use Rattle.mutations.proofs.change.apply.Goals as goal
@@ -48,3 +48,14 @@ returns-in-Load-clause-legal c =
     c.requires.legal
     (subst (Fits c.args.program.now c.args.plan.now.slots) c.in-Load.is c.requires.fits)
     (ap (λ v. v.slots) c.toggle_load_at.ensures)
+
+pub set_chain-requires-clause-ops : goal.set_chain-requires-clause-ops
+set_chain-requires-clause-ops c = legal_ops c.args.program.now c.args.plan.now.slots c.requires.legal
+
+pub returns-in-Chain-clause-legal : goal.returns-in-Chain-clause-legal
+unfolding applied
+returns-in-Chain-clause-legal c =
+    legal_after c.args.program.now (Chain c.in-Chain.slot c.in-Chain.number) c.args.plan.now.slots
+    c.set_chain.new.plan.slots c.requires.legal
+    (subst (Fits c.args.program.now c.args.plan.now.slots) c.in-Chain.is c.requires.fits)
+    (ap (λ v. v.slots) c.set_chain.ensures)

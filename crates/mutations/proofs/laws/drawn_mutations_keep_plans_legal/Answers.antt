@@ -1,6 +1,6 @@
 -- A drawn mutation fits, and what fits leaves a legal plan.
 use Rattle.std.proofs.Common.{refl}
-use Rattle.mutations.specs.Mutations.{drawn, applied}
+use Rattle.mutations.specs.Mutations.{drawn}
 use Rattle.mutations.proofs.Applied.{legal_after}
 use Rattle.mutations.proofs.FitsDrawn.{drawn_fits}
 use Rattle.mutations.proofs.laws.drawn_mutations_keep_plans_legal.Goals as goal
@@ -12,5 +12,5 @@ pub returns-clause-legal : goal.returns-clause-legal
 returns-clause-legal c p slots mutation legal fits = legal_after p mutation slots _ legal fits refl
 
 pub returns-clause-drawn : goal.returns-clause-drawn
-returns-clause-drawn c p slots words accepted legal =
-    legal_after p (drawn p slots words) slots _ legal (drawn_fits p slots words accepted legal) refl
+returns-clause-drawn c p slots words draw accepted legal =
+    legal_after p (drawn p slots words draw) slots _ legal (drawn_fits p slots words draw accepted legal) refl
