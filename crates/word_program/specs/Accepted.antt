@@ -118,6 +118,12 @@ pub record IsAccepted (source : Source) : Type 0 where
   pub written : (param word : ℕ) → IsOutputWord source.params param word
       → count_by (is_at param word) (targets_of source.ops) ≡ 1
 
+-- some parts that break no rule are this program
+pub record IsOfParts (source : Source) : Type 0 where
+  pub parts : RawProgram
+  pub sound : first_fault parts ≡ None
+  pub is : source ≡ program_of parts
+
 -- some parts that break no rule are this program; beside it are the target of each value, and which values
 -- are bits
 pub record IsKept (source : Source) (ts : List Target) (bits : List Bool) : Type 0 where

@@ -1,7 +1,7 @@
 ghost use Rattle.std.specs.Prelude.{◌≡◌, ◌<◌, ◌≤◌, ◌+◌, ◌*◌, None, Decides, IfOk, IfErr, OnOk, length, option_map};
 ghost use Rattle.std.specs.Prelude.{sum_by, take};
 ghost use Rattle.base.specs.declared.limits.TheConstants.{MAX_ARRAY_WORDS};
-ghost use Rattle.word_program.specs.Accepted.{IsAccepted, IsKept};
+ghost use Rattle.word_program.specs.Accepted.{IsAccepted, IsKept, IsOfParts};
 ghost use Rattle.word_program.specs.Rules.{first_fault, is_overlap_if_there, program_of, top_rules};
 ghost use Rattle.word_program.specs.Values as values;
 ghost use Rattle.word_program.specs.Walk.{IsFault, Meets, at, place_in};
@@ -107,6 +107,13 @@ impl Program {
             targets: read.targets,
             bits: read.bits,
         })
+    }
+
+    /// Says that the program is that of parts that break no rule. It does nothing.
+    pub fn comes_from_parts(&self)
+        ensures { IsOfParts self.now }
+    {
+        let _ = &self.name;
     }
 
     /// Its name.
