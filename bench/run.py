@@ -41,6 +41,11 @@ ROWS = [
     ("emulate", "comments.s"),
     ("check", "chain_107.s"),
     ("check", "chain_2048.s"),
+    ("search", "copy.json"),
+    ("search", "chain_107.json"),
+    ("search", "chain_2048.json"),
+    ("search", "operations.json"),
+    ("search", "limits.json"),
 ]
 
 
@@ -56,6 +61,8 @@ def words(command, folder, file):
         return ["emulate", copy, path, "--in", inputs_of(copy)]
     if command == "check":
         return ["check", path.replace(".s", ".json"), path]
+    if command == "search":
+        return ["search", path, path.replace(".json", ".published.s")]
     raise SystemExit(f"no words are known for {command}")
 
 

@@ -43,8 +43,6 @@ if [ -n "$program" ]; then
         name=$(basename "$source" .json)
         status=0
         (cd "$folder" && "$program" search "$source" "$name.s" >/dev/null 2>&1) || status=$?
-        # `search` does not take every program yet, and then ends with 6.
-        [ "$status" -ne 6 ] || continue
         [ "$status" -eq 0 ] || { echo "assemble: search of $name.json ends with $status"; exit 1; }
         assemble "$folder/$name.s" "the listing of $name.json"
     done

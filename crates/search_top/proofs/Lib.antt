@@ -1,5 +1,4 @@
 -- The lemmas of this crate.
-pub mod CopyLemmas
-pub mod CopyIsCorrect
+pub mod Openings
 pub mod OutputWords
 pub mod StatedOutputs

@@ -1,7 +1,5 @@
 -- The definitions of this crate, in the order to read them.
-pub mod Copy
 pub mod Outputs
-pub mod Plain
 pub mod Search
 pub mod Eval
 pub mod Emulate

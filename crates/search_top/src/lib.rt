@@ -10,18 +10,14 @@
 
 mod check_command;
 mod commands;
-mod copy;
 mod emulate_command;
 mod emulation;
 mod eval_command;
-mod laws;
 mod opening;
 mod outputs;
-mod plain;
 mod search_command;
 mod show_command;
 
 pub use command_frame::{Status, exit_of, line_of};
 pub use commands::command;
-pub use laws::plain_listing_is_correct;
 pub use search_command::search;

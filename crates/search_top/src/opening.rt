@@ -1,24 +1,19 @@
-ghost use Rattle.std.specs.Prelude.{◌≡◌, [], ◌∷◌, ◌++◌, IfOk, IfErr, codes, decimal, string_bytes};
-ghost use Rattle.word_text.specs.declared.codes.TheConstants.{OPERATION};
-ghost use Rattle.word_text.specs.declared.fault.Section.TheVariants.{Top};
-ghost use Rattle.search_top.specs.Copy.{IsCopy};
-ghost use Rattle.word_program.specs.Walk.{place_in};
-ghost use Rattle.x86_meaning.specs.Correct.{IsCorrect};
+ghost use Rattle.std.specs.Prelude.{◌≡◌, [], ◌∷◌, ◌++◌, IfOk, codes, decimal, string_bytes};
 ghost use Rattle.asm_text.specs.Assembly.{text_of};
-ghost use Rattle.command_frame.specs.Ends.{RefusesWork};
+ghost use Rattle.cost_table.specs.Costs.{cost_of};
 ghost use Rattle.command_frame.specs.Files as files;
-ghost use Rattle.search_top.specs.Plain.{plain_lines, plain_listing};
-ghost use Rattle.search_top.specs.Search.{ReadsBack, SearchMeans, SearchRefuses, opening_text};
+ghost use Rattle.equiv_validator.specs.Kept.{HasChecks};
+ghost use Rattle.search_top.specs.Search.{IsFit, SearchMeans, opening_listing};
 
-use crate::copy::copy_form;
-use crate::plain;
 use asm_text::write;
-use command_frame::Status;
-use cost_table::cost;
+use equiv_validator::{Checked, Prepared};
+use op_order::Plan;
+use plain_checks::checked_plain;
 use std::alloc::{AllocError, Global};
-use word_program::{Place, Program, Section, codes};
+use std::sync::Arc;
+use word_program::Program;
 
-/// The opening of a search: a program's plain listing.
+/// The opening of a search: the plain listing of a program's opening plan.
 #[derive(Drop)]
 pub struct Opening {
     /// The text of the listing.
@@ -27,44 +22,38 @@ pub struct Opening {
     pub line: String,
 }
 
-/// The opening of the program, or the status of the search that wants it.
-pub fn opening_of(alloc: Global, program: &Program) -> Result<Opening, Status>
-    ensures opening { IfOk result (λ o. SearchMeans (files.Program program.now ∷ [])
+/// The opening of the program. The one error is want of memory.
+pub fn opening_of(alloc: Global, program: Program) -> Result<Opening, AllocError>
+    ensures { IfOk result (λ o. SearchMeans (files.Program program ∷ [])
         (record { texts = o.text.items ∷ []; word = string_bytes o.line })) }
-    ensures refused { IfErr result (RefusesWork (SearchRefuses (files.Program program.now ∷ []))) }
 {
-    let Some(_) = copy_form(program) else {
-        return Err(not_searched());
-    };
-    match plain_opening(alloc, program) {
-        Ok(opening) => Ok(opening),
-        Err(_) => Err(Status::OutOfMemory),
-    }
+    let checked = checked_opening(alloc, program)?;
+    let opening = published(alloc, &checked)?;
+    Ok(opening)
 }
 
-/// The fault of a program that `search` does not take yet.
-fn not_searched() -> Status
-    ensures { result ≡ Status.Program OPERATION (place_in Top 0 0) }
+/// The plain listing of the program's opening plan, checked and kept with the plan.
+fn checked_opening(alloc: Global, program: Program) -> Result<Checked, AllocError>
+    ensures program { IfOk result (λ c. c.program ≡ program) }
+    ensures listing { IfOk result (λ c. c.listing ≡ opening_listing program) }
+    ensures checks { IfOk result HasChecks }
 {
-    let place = Place {
-        section: Section::Top,
-        item: 0,
-        inner: 0,
-    };
-    Status::Program(codes::OPERATION, place)
+    let program = Arc::new(alloc, program)?;
+    let prepared = Prepared::new(alloc, program)?;
+    let plan = Plan::opening(alloc, prepared.program())?;
+    checked_plain(alloc, &prepared, plan)
 }
 
-fn plain_opening(alloc: Global, program: &Program) -> Result<Opening, AllocError>
-    requires { IsCopy program.now }
-    ensures text { IfOk result (λ o. o.text.items ≡ text_of (plain_listing program.now)) }
-    ensures line { IfOk result (λ o. string_bytes o.line ≡ opening_text program.now) }
-    ensures reads_back { IfOk result (λ o. ReadsBack (plain_listing program.now)) }
-    ensures correct { IfOk result (λ o. IsCorrect program.now (plain_lines program.now)) }
+/// What is published of a listing that was checked: its text, and the line that tells its cost.
+fn published(alloc: Global, checked: &Checked) -> Result<Opening, AllocError>
+    ensures text { IfOk result (λ o. o.text.items ≡ text_of checked.now.listing) }
+    ensures line { IfOk result (λ o. string_bytes o.line
+        ≡ codes "opening " ++ (decimal (cost_of checked.now.listing.lines) ++ codes "\n")) }
+    ensures fit { IfOk result (λ o. IsFit checked.now.program checked.now.listing) }
 {
-    let listing = plain::plain_listing(alloc, program)?;
-    let cost = cost(&listing);
-    let text = write(alloc, &listing)?;
-    let line = opening_line(alloc, cost)?;
+    let _ = checked.program().params();
+    let text = write(alloc, checked.listing())?;
+    let line = opening_line(alloc, checked.cost())?;
     Ok(Opening { text, line })
 }
 

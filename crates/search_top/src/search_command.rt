@@ -10,7 +10,7 @@ use command_line::{Command, command_of};
 use io_ports::Shelf;
 use std::alloc::Global;
 
-/// Publishes the plain listing of the program in a file under the name `asm`.
+/// Publishes the opening of the program in a file under the name `asm`.
 fn search_file<S: Shelf>(alloc: Global, program: Text, asm: Text, shelf: &mut S) -> Status
     ensures { EndsAs (Command.Search program asm)
         (change_of S.held S.said S.calls S.faults shelf.old shelf.new) result }
@@ -22,7 +22,7 @@ fn search_file<S: Shelf>(alloc: Global, program: Text, asm: Text, shelf: &mut S)
         Ok(program) => program,
         Err(status) => return status,
     };
-    match opening_of(alloc, &program) {
+    match opening_of(alloc, program) {
         Ok(opening) => store_and_say(
             opening.text.as_slice(),
             asm,
@@ -30,13 +30,13 @@ fn search_file<S: Shelf>(alloc: Global, program: Text, asm: Text, shelf: &mut S)
             output,
             shelf,
         ),
-        Err(status) => status,
+        Err(_) => Status::OutOfMemory,
     }
 }
 
-/// Makes the plain listing of a program, and publishes it: the words are `search PROGRAM ASM`. It reads the
-/// file PROGRAM, which has at most 1,048,576 bytes, writes the listing's text to the file ASM, and says the
-/// listing's cost.
+/// Makes the plain listing of a program's opening plan, checks it, and publishes it: the words are
+/// `search PROGRAM ASM`. It reads the file PROGRAM, which has at most 1,048,576 bytes, writes the listing's text to the
+/// file ASM, and says the listing's cost.
 ///
 /// The refusals come in this order: [`Status::Usage`]; [`Status::ReadFault`] and [`Status::TooLong`];
 /// [`Status::NotJson`]; [`Status::Program`]; and last [`Status::WriteFault`], of ASM, then of standard
@@ -55,7 +55,8 @@ pub fn search<S: Shelf>(alloc: Global, words: &[String], shelf: &mut S) -> Statu
         (λ files. EndsAs (Command.Search files.program files.asm)
         (change_of S.held S.said S.calls S.faults shelf.old shelf.new) result) }
 
-    // PROGRAM is a program, ASM is the text of its plain listing, which is correct, and its cost was said.
+    // PROGRAM is a program, ASM is the text of the plain listing of its opening plan, which is proved, and so correct,
+    // and its cost was said.
     ensures success { OnSuccess result (IfSome (searched_files (map string_bytes words.now))
         (λ files. Succeeds files (change_of S.held S.said S.calls S.faults shelf.old shelf.new))) }
 

@@ -128,3 +128,34 @@ pub fn refuses(alloc: Global, files: Files<'_>, row: &str, calls: u64) -> Result
     };
     leaves(alloc, files, line, &[calls], refused(files, end))
 }
+
+/// What was said of a program by `search` and then by `check`, and how many instructions were published.
+#[derive(Drop)]
+pub struct Outcome {
+    pub said: Vec<u8>,
+    pub instructions: usize,
+}
+
+// How many lines of a text stand behind the header, which has four.
+fn instructions_in(text: &[u8]) -> usize {
+    let mut count = 0usize;
+    for byte in text {
+        if *byte == b'\n' {
+            count = count.saturating_add(1);
+        }
+    }
+    count.saturating_sub(4)
+}
+
+/// Searches a program, and checks what was published, on one shelf.
+pub fn published(alloc: Global, program: &str) -> Result<Outcome, AllocError> {
+    let mut shelf = shelf_of(alloc, with_program(program), &[])?;
+    let words = words_of(alloc, "search p.json p.s")?;
+    search(alloc, words.as_slice(), &mut shelf);
+    let words = words_of(alloc, "check p.json p.s")?;
+    command(alloc, words.as_slice(), &mut shelf);
+    Ok(Outcome {
+        said: shelf.said().to_vec(alloc)?,
+        instructions: instructions_in(shelf.file("p.s").unwrap_or(b"")),
+    })
+}

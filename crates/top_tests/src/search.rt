@@ -1,6 +1,6 @@
 //! `search`: what it publishes, and what it refuses.
-use crate::calls::{Left, leaves, refused, with_program};
-use crate::programs::{COPY1, COPY1_TEXT};
+use crate::calls::{Left, leaves, published, refused, with_program};
+use crate::programs::{ADD1, AND2, CHAIN2, COPY1, COPY1_TEXT, MUL4, MULX1, SUB1};
 use std::alloc::{AllocError, Global};
 use std::test::Fail;
 
@@ -93,8 +93,7 @@ fn reads_the_same_program_in_another_text(rt: HostRuntime) -> Result<(), Fail> {
     Ok(())
 }
 
-// Each row has the end, a piece of the program, and what stands in its place: the fault that comes first, and what is
-// read but is no copy of one word.
+// Each row has the end, a piece of the program, and what stands in its place.
 const FAULTS: &str = r#"
 6 program fault P01 at top 0 0 => "operation" => "Operation"
 6 program fault P01 at arguments 0 0 => u64[1]"}],"body" => u64[1]","lbound":null}],"body"
@@ -107,8 +106,6 @@ const FAULTS: &str = r#"
 6 program fault P08 at body 0 0 => "=" => "+"
 6 program fault P09 at body 0 1 => "arg1[0]" => "arg1[1]"
 6 program fault P14 at body 0 2 => "out1[0]" => "out1[1]"
-6 program fault P07 at top 0 0 => u64[1]"}],"arg => u64[1]","ubound":["0x1"]}],"arg
-6 program fault P07 at top 0 0 => "]}]} => "]},{"operation":"=","name":["_"],"arguments":["arg1[0]"]}]}
 5 not JSON => }]} => }]
 5 not JSON => }]} => }]} {}
 "#;
@@ -124,5 +121,39 @@ fn refuses_other_programs(rt: HostRuntime) -> Result<(), Fail> {
             "{row}"
         );
     }
+    Ok(())
+}
+
+// Two words exchanged, where outputs may share memory with inputs, and where they may not.
+const SWAP2: &str = r#"{"operation":"swap2","overlap":"any",
+"returns":[{"name":"out1","datatype":"u64[2]"}],"arguments":[{"name":"arg1","datatype":"u64[2]"}],"body":
+[{"operation":"=","name":["out1[0]"],"arguments":["arg1[1]"]},
+{"operation":"=","name":["out1[1]"],"arguments":["arg1[0]"]}]}"#;
+
+const APART: &str = r#""overlap":"any", => "#;
+
+// Programs, each with the cost of its opening and the number of the listing's instructions.
+const OPENINGS: &[(&str, u64, usize)] = &[
+    (COPY1, 28, 10),
+    (ADD1, 50, 18),
+    (SUB1, 50, 18),
+    (CHAIN2, 158, 52),
+    (AND2, 41, 13),
+    (MULX1, 42, 13),
+    (SWAP2, 63, 19),
+    (MUL4, 1302, 422),
+];
+
+#[test]
+fn publishes_an_opening_that_check_proves(rt: HostRuntime) -> Result<(), Fail> {
+    for (program, cost, lines) in OPENINGS {
+        let left = published(rt.alloc(), program)?;
+        let said = format!(in rt.alloc(); "opening {cost}\nproved\n")?;
+        assert!(rt; left.said.as_slice() == said.as_bytes(), "{program}");
+        assert_eq!(rt; left.instructions, *lines, "{program}");
+    }
+    let apart = changed(rt.alloc(), SWAP2, APART)?;
+    let left = published(rt.alloc(), apart.as_str())?;
+    assert!(rt; left.said.as_slice() == b"opening 47\nproved\n".as_slice());
     Ok(())
 }
