@@ -1,0 +1,6 @@
+-- A text stands for one journal.
+use Rattle.journal_text.proofs.Outcome.{one_journal}
+use Rattle.journal_text.proofs.laws.one_journal.Goals as goal
+
+pub returns : goal.returns
+returns c = one_journal
