@@ -1,5 +1,5 @@
 -- What the calls do.
-use Rattle.std.specs.Prelude.{◌≡◌, ℕ, ◌^◌, ◌/◌, ◌%◌, Bool, true, not, ◌&&◌, ◌==◌, List, Option, Some, None, slice_set}
+use Rattle.std.specs.Prelude.{◌≡◌, ℕ, ◌^◌, ◌/◌, ◌%◌, Bool, true, false, not, ◌&&◌, ◌==◌, List, Option, Some, None, slice_set}
 use Rattle.std.specs.List.{find, list_any}
 use Rattle.std.specs.Option.{MatchOption}
 use Rattle.x86_instr.specs.declared.operand.Reg.{Reg}
@@ -17,9 +17,12 @@ use Rattle.register_spill.specs.Uses.{is_farther}
 abbrev pub is_pinned : ℕ → Reg → Bool
 is_pinned bits r = (bits / 2 ^ number_of r) % 2 == 1
 
+abbrev pub is_stack : Reg → Bool
+is_stack r = number_of r == number_of Rsp
+
 -- a value may be put into the register: it is not the stack pointer, and not in the set
 abbrev pub is_open : ℕ → Reg → Bool
-is_open bits r = not (number_of r == number_of Rsp) && not (is_pinned bits r)
+is_open bits r = not (is_stack r) && not (is_pinned bits r)
 
 -- there is a register into which a value may be put
 abbrev pub some_open : ℕ → Bool
@@ -65,6 +68,6 @@ IsTaken before after value now bits taken = MatchOption (first_free before.spots
 
 -- the spot is the slot of the frame that is the value's, or nowhere
 abbrev pub is_outside : ℕ → Spot → Bool
-is_outside value (Register r) = not true
+is_outside value (Register r) = false
 is_outside value (Frame slot) = slot == value
 is_outside value Nowhere = true

@@ -68,7 +68,13 @@ fn farther_of(found: Option<Candidate>, best: Option<Candidate>) -> Option<Candi
 }
 
 /// The value in a register, where that is not pinned.
-fn value_in(holders: &Holders, uses: &[Slots], reg: Reg, now: u16, pinned: RegSet) -> Option<Candidate>
+fn value_in(
+    holders: &Holders,
+    uses: &[Slots],
+    reg: Reg,
+    now: u16,
+    pinned: RegSet,
+) -> Option<Candidate>
     requires values { (r : Reg) (value : ℕ) → holder_at holders.now r ≡ Some value → value < length uses.now }
     requires ascending { (value : ℕ) → IsNonDecreasing (uses_at uses.now value) }
     ensures { result ≡ spec.candidate_of holders.now uses.now now pinned.bits reg }

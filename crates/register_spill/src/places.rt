@@ -98,7 +98,7 @@ impl Places {
         ensures { self.new ≡ spec.released self.old value }
     {
         if let Spot::Register(reg) = self.spots[value as usize] {
-            self.leave(value, reg, Spot::Nowhere);
+            return self.leave(value, reg, Spot::Nowhere);
         }
         self.spots[value as usize] = Spot::Nowhere;
     }
@@ -125,7 +125,7 @@ impl Places {
         requires value { value < length self.old.spots }
         requires outside { is_in_register (spot_at self.old.spots value) ≡ false }
         requires free { is_free self.old.spots reg ≡ true }
-        requires not_stack { spec.is_open 0 reg ≡ true }
+        requires not_stack { spec.is_stack reg ≡ false }
         ensures { self.new ≡ spec.with_spot self.old value (Register reg) }
     {
         self.holders[reg.number() as usize] = Some(value);

@@ -1,4 +1,4 @@
-ghost use Rattle.std.specs.Prelude.{◌≡◌, ◌<◌, ◌≤◌, [], ℕ, length, replicate, IfOk, OnOk};
+ghost use Rattle.std.specs.Prelude.{◌≡◌, ◌<◌, ◌≤◌, [], ℕ, length, replicate, slice_get, IfOk, OnOk};
 ghost use Rattle.std.specs.List.{All, AllByRecursion};
 ghost use Rattle.std.specs.List.Sorted.{IsNonDecreasing};
 ghost use Rattle.word_program.specs.Values.{targets_of};
@@ -98,13 +98,19 @@ pub fn uses_of(alloc: Global, program: &Program, plan: &Plan) -> Result<Vec<Slot
     Ok(uses)
 }
 
+fn slot_at(uses: &[u16], place: usize) -> Option<u16>
+    ensures { result ≡ slice_get uses.now place }
+{
+    uses.get(place).copied()
+}
+
 /// The first of these slots that is not before `now`.
 fn next_use(uses: &[u16], now: u16) -> Option<u16>
     requires { IsNonDecreasing uses.now }
     ensures { result ≡ spec.next_use uses.now now }
 {
     let place = uses.partition_point(|at| *at < now);
-    uses.get(place).copied()
+    slot_at(uses, place)
 }
 
 /// The first of these slots that is not before `now`, or [`NEVER`] where there is none.
