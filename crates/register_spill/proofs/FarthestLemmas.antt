@@ -244,6 +244,7 @@ has_value (Some v) e = (v, refl)
 pub there_is_one : (spots : List Spot) (holders : List (Option ℕ)) (uses : List (List ℕ))
     → IsInside spots holders uses → (now bits : ℕ) → first_free spots bits ≡ None → some_open bits ≡ true
     → is_some (farthest_of holders uses now bits registers) ≡ true
+unfolding first_free some_open
 there_is_one spots holders uses inside now bits none some =
     let found = some_passes (is_open bits) registers some in
     let r = found.0 in
@@ -255,3 +256,13 @@ there_is_one spots holders uses inside now bits none some =
     let value = has_value (holder_at holders r) (free_same spots holders uses inside r ∙ not_free_there) in
     let beats = beaten holders uses now bits r value.0 found.1 value.1 in
     ap is_some beats.is
+
+-- the same of what the code found
+pub chosen : (spots : List Spot) (holders : List (Option ℕ)) (uses others : List (List ℕ)) → IsInside spots holders uses
+    → (now bits : ℕ) (p : Placed) (found : Option Candidate) (b : Candidate)
+    → ◌≡◌ {A = Placed} (record { spots = spots; uses = uses }) p → others ≡ uses
+    → found ≡ farthest_of holders others now bits registers → found ≡ Some b
+    → IsFarthest p now bits b.value b.reg
+chosen spots holders uses others inside now bits p found b view same is some =
+    subst (λ (q : Placed). IsFarthest q now bits b.value b.reg) view (farthest_is spots holders uses inside now bits b
+    (sym (is ∙ ap (λ (ls : List (List ℕ)). farthest_of holders ls now bits registers) same) ∙ some))

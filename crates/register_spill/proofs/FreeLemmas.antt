@@ -3,6 +3,7 @@ use Rattle.std.proofs.Common.{◌≡◌, ℕ, zero, suc, ◌<◌, Bool, true, fa
 use Rattle.std.proofs.Common.{subst, ◌∙◌, inl, inr, Some, None, Option}
 use Rattle.std.specs.Prelude.{◌&&◌, ◌==◌, cond, not, is_none, slice_index_or, slice_set}
 use Rattle.std.specs.List.{find, list_any, All}
+use Rattle.std.specs.Option.{MatchOption}
 use Rattle.std.proofs.lemmas.Bool.{true≢false, false≢true, cases_Bool, cases_eq, cases_lt, eq-eqb, eqb-true, and_parts}
 use Rattle.std.proofs.lemmas.Bool.{false_from_ne_true, cond-true, cond-false}
 use Rattle.std.proofs.lemmas.List.{get_or_default, get_or-set_same, get_or-set_other}
@@ -11,8 +12,8 @@ use Rattle.x86_instr.specs.declared.operand.Reg.{Reg}
 use Rattle.x86_instr.specs.Registers.{number_of, registers}
 use Rattle.register_spill.specs.declared.spot.Spot.{Spot}
 use Rattle.register_spill.specs.declared.spot.Spot.TheVariants.{Register, Frame, Nowhere}
-use Rattle.register_spill.specs.Spots.{spot_at, is_in, is_free}
-use Rattle.register_spill.specs.Calls.{is_open, is_stack, first_free}
+use Rattle.register_spill.specs.Spots.{Placed, spot_at, is_in, is_free}
+use Rattle.register_spill.specs.Calls.{is_open, is_stack, first_free, with_spot, IsTaken, Evicts, TakesFree}
 use Rattle.register_spill.specs.Choosing.{first_without}
 use Rattle.register_spill.specs.Inside.{holder_at, IsInside}
 use Rattle.register_spill.proofs.SpotLemmas.{same_register, spot_range}
@@ -79,6 +80,7 @@ free_same spots holders uses inside r = free_by spots holders uses inside r (hol
 
 pub first_same : (spots : List Spot) (holders : List (Option ℕ)) (uses : List (List ℕ)) → IsInside spots holders uses
     → (bits : ℕ) → first_without holders bits ≡ first_free spots bits
+unfolding first_free first_without
 first_same spots holders uses inside bits = find_agree (λ r. is_open bits r && is_none (holder_at holders r))
     (λ r. is_open bits r && is_free spots r)
     (λ r. ap (λ (b : Bool). is_open bits r && b) (free_same spots holders uses inside r)) registers
@@ -99,6 +101,7 @@ pub record IsFirst (spots : List Spot) (bits : ℕ) (r : Reg) : Type 0 where
   pub free : is_free spots r ≡ true
 
 pub first_is : (spots : List Spot) (bits : ℕ) (r : Reg) → first_free spots bits ≡ Some r → IsFirst spots bits r
+unfolding first_free
 first_is spots bits r e =
     let both = and_parts (is_open bits r) (is_free spots r)
     (found_passes (λ q. is_open bits q && is_free spots q) registers r e) in
@@ -130,3 +133,18 @@ left_free spots holders uses inside value slot r there =
           let b : holder_at holders r ≡ Some value = inside.holds value r there in
           let same : v ≡ value = cc in ne same
     ])
+
+-- the first free register by the spots is what the code found
+pub first_found : (spots : List Spot) (holders : List (Option ℕ)) (uses : List (List ℕ)) → IsInside spots holders uses
+    → (bits : ℕ) (p : Placed) (found : Option Reg) → ◌≡◌ {A = Placed} (record { spots = spots; uses = uses }) p
+    → found ≡ first_without holders bits → first_free p.spots bits ≡ found
+first_found spots holders uses inside bits p found view is =
+    ap (λ (q : Placed). first_free q.spots bits) (sym view) ∙ sym (first_same spots holders uses inside bits) ∙ sym is
+
+pub takes_free : (before after : Placed) (value now bits : ℕ) (r : Reg) → first_free before.spots bits ≡ Some r
+    → after ≡ with_spot before value (Register r)
+    → IsTaken before after value now bits (record { reg = r; evicted = None })
+takes_free before after value now bits r first change =
+    subst (λ (o : Option Reg). MatchOption o (Evicts before after value now bits (record { reg = r; evicted = None }))
+    (TakesFree before after value (record { reg = r; evicted = None }))) (sym first)
+    (record { told = refl; change = change })

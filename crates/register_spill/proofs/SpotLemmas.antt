@@ -213,3 +213,15 @@ released_inside spots holders uses value inside w out = record {
   lists = inside.lists ∙ sym (length-set spots value Nowhere);
   ascending = inside.ascending;
 }
+
+-- a value that is known of a register has a list of uses
+pub holder_range : (spots : List Spot) (holders : List (Option ℕ)) (uses : List (List ℕ)) → IsInside spots holders uses
+    → (r : Reg) (value : ℕ) → holder_at holders r ≡ Some value → value < length uses
+holder_range spots holders uses inside r value e =
+    subst (λ (n : ℕ). value < n) (sym inside.lists) (spot_range spots value r (inside.held value r e))
+
+-- a spot that is no register
+pub outside_by : (spot : Spot) → ((r : Reg) → spot ≡ Register r → ⊥) → is_in_register spot ≡ false
+outside_by (Register r) never = absurd (never r refl)
+outside_by (Frame slot) never = refl
+outside_by Nowhere never = refl

@@ -278,13 +278,10 @@ enter_all_kept ops at now slots i d whole new h kept is =
     ∙ ap (λ (ls : List (List ℕ)). entered_all ops (at + 1) ls (drop (i + 1) slots)) (sym is)
 
 -- the operands of an operation that is there
-pub args_at : (ops : List Op) (op : ℕ) (o : Op) → op < length ops → o ≡ slice_index_or ops op o → o.args ≡ args_of ops op
-args_at ops op o h e = ap (λ (x : Op). x.args) e ∙ sym (args_of_at ops op o h)
-  where
-    args_of_at : (ops : List Op) (op : ℕ) (o : Op) → op < length ops → args_of ops op ≡ (slice_index_or ops op o).args
-    args_of_at [] op o h = absurd (omega arith)
-    args_of_at (x ∷ xs) zero o h = refl
-    args_of_at (x ∷ xs) (suc n) o h = args_of_at xs n o (omega arith)
+pub args_at : (ops : List Op) (op : ℕ) (o : Op) → op < length ops → (slice_index_or ops op o).args ≡ args_of ops op
+args_at [] op o h = absurd (omega arith)
+args_at (x ∷ xs) zero o h = refl
+args_at (x ∷ xs) (suc n) o h = args_at xs n o (omega arith)
 
 -- the operands of each operation of a program are values of it
 within_from : (values : ℕ) (ops : List Op)

@@ -25,11 +25,11 @@ abbrev pub is_open : ℕ → Reg → Bool
 is_open bits r = not (is_stack r) && not (is_pinned bits r)
 
 -- there is a register into which a value may be put
-abbrev pub some_open : ℕ → Bool
+unfoldable pub some_open : ℕ → Bool
 some_open bits = list_any (is_open bits) registers
 
 -- the first register into which a value may be put, and in which none is
-abbrev pub first_free : List Spot → ℕ → Option Reg
+unfoldable pub first_free : List Spot → ℕ → Option Reg
 first_free spots bits = find (λ r. is_open bits r && is_free spots r) registers
 
 -- ---- spots that change

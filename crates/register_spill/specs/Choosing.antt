@@ -10,7 +10,7 @@ use Rattle.register_spill.specs.Calls.{is_open}
 use Rattle.register_spill.specs.Inside.{holder_at}
 
 -- the first register that is not pinned and has no value
-abbrev pub first_without : List (Option ℕ) → ℕ → Option Reg
+unfoldable pub first_without : List (Option ℕ) → ℕ → Option Reg
 first_without holders bits = find (λ r. is_open bits r && is_none (holder_at holders r)) registers
 
 -- the value in a register, with the slot of its next use

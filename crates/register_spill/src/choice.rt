@@ -35,6 +35,7 @@ fn is_open_and_free(holders: &Holders, pinned: RegSet, reg: Reg) -> bool
 }
 
 /// The free register with the lowest number of those that are not pinned.
+#[tactic(auto, unfolding(crate::specs::Choosing::first_without))]
 pub fn first_free(holders: &Holders, pinned: RegSet) -> Option<Reg>
     ensures { result ≡ spec.first_without holders.now pinned.bits }
 {

@@ -13,6 +13,7 @@ loop-slot-preserved c =
       number = omega (arith, before.number);
       lists = enter_all_kept c.args.ops.now c.loop-slot.at c.loop-slot.uses.items c.args.slots.now
           c.loop-slot.slot-index (opening_slot 0) _ c.enter.new.uses.items c.loop-slot-test.true before.lists
-          (is ∙ ap (entered c.loop-slot.at c.loop-slot.uses.items) (c.items.ensures ∙ ?));
+          (is ∙ ap (entered c.loop-slot.at c.loop-slot.uses.items) (c.items.ensures ∙ args_at c.args.ops.now _ _
+          (c.requires.slots c.loop-slot.slot-index (opening_slot 0) c.loop-slot-test.true)));
       size = ap length is ∙ entered_count c.items.result.now c.loop-slot.at c.loop-slot.uses.items ∙ before.size;
     }
