@@ -65,10 +65,10 @@ impl Tracks {
 
     /// Gives the value with this number a home. Where that is a flag, another value that was in it is nowhere then.
     /// Every other value stays where it is.
-    #[tactic(auto, unfolding(crate::specs::Homes::put_home))]
     pub fn put(&mut self, value: u16, home: Home)
         requires { value < length self.old }
-        ensures { self.new ≡ spec.put_home self.old value home }
+        ensures homes { self.new ≡ spec.put_home self.old value home }
+        ensures count { length self.new ≡ length self.old }
     {
         self.empty(flag_of(home));
         self.lose(value);
@@ -77,9 +77,10 @@ impl Tracks {
 
     /// Each value in a flag that the instruction sets, clears or leaves undefined is nowhere then. Every other value
     /// stays where it is.
-    #[tactic(auto, unfolding(crate::specs::Homes::killed))]
+    #[tactic(auto, unfolding(crate::specs::Homes::killed), using(crate::proofs::HomeLemmas::length_emptied))]
     pub fn kill(&mut self, instr: &Instr)
-        ensures { self.new ≡ spec.killed instr.now self.old }
+        ensures homes { self.new ≡ spec.killed instr.now self.old }
+        ensures count { length self.new ≡ length self.old }
     {
         self.empty(instr.flags_written());
     }

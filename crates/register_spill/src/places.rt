@@ -84,6 +84,7 @@ impl Places {
         requires some_open { spec.some_open pinned.bits ≡ true }
         ensures taken { spec.IsTaken self.old self.new value now pinned.bits result }
         ensures open { spec.is_open pinned.bits result.reg ≡ true }
+        ensures count { length self.new.spots ≡ length self.old.spots }
     {
         if let Some(reg) = first_free(&self.holders, pinned) {
             self.enter(value, reg);
@@ -95,7 +96,8 @@ impl Places {
     /// The value is nowhere. Every other value stays where it is.
     pub fn release(&mut self, value: u16)
         requires { value < length self.old.spots }
-        ensures { self.new ≡ spec.released self.old value }
+        ensures released { self.new ≡ spec.released self.old value }
+        ensures count { length self.new.spots ≡ length self.old.spots }
     {
         if let Spot::Register(reg) = self.spots[value as usize] {
             return self.leave(value, reg, Spot::Nowhere);

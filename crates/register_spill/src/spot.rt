@@ -1,3 +1,6 @@
+ghost use Rattle.std.specs.Prelude.{◌≡◌};
+ghost use Rattle.register_spill.specs.Spots.{is_in_register};
+
 use x86_instr::Reg;
 
 /// Where a value is.
@@ -9,6 +12,15 @@ pub enum Spot {
     Frame(u32),
     /// Nowhere.
     Nowhere,
+}
+
+impl Spot {
+    /// Whether the spot is a register.
+    pub fn is_register(self) -> bool
+        ensures { result ≡ is_in_register self }
+    {
+        matches!(self, Spot::Register(_))
+    }
 }
 
 /// The register that a value was put into.
