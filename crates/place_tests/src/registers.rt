@@ -1,4 +1,6 @@
 //! Values in registers.
+ghost use Rattle.std.specs.Prelude.{◌≡◌, ◌<◌, length};
+
 use crate::programs::parts;
 use op_order::Plan;
 use register_spill::{Places, RegSet, Spot, Taken};
@@ -62,14 +64,89 @@ fn program(alloc: Global) -> Result<Program, Fail> {
     Ok(Program::new(alloc, &parts(alloc, COPIES)?)?)
 }
 
-fn is_outside(spot: Spot) -> bool {
-    match spot {
-        Spot::Register(_) => false,
-        Spot::Frame(_) | Spot::Nowhere => true,
+/// Takes a register for a value, if it is in none and one is left.
+fn take(places: &mut Places, value: u16, now: u16, pinned: RegSet) -> Option<Taken>
+    requires { value < length places.old.spots }
+    ensures { length places.new.spots ≡ length places.old.spots }
+{
+    if places.at(value).is_register() {
+        return None;
     }
+    if !pinned.leaves_one() {
+        return None;
+    }
+    Some(places.take(value, now, pinned))
 }
 
-/// Takes a register for a value of the program, where it has none.
-fn take(places: &mut Places, value: u16, now: u16, pinned: RegSet) -> Option<Taken> {
-    None
+/// Takes registers for the first fifteen values, and says whether these are all registers in their order.
+fn fill(places: &mut Places) -> bool
+    requires { 15 < length places.old.spots }
+    ensures { length places.new.spots ≡ length places.old.spots }
+{
+    let mut as_expected = true;
+    for value in 0..15 {
+        let expected = Taken {
+            reg: ORDER[value as usize],
+            evicted: None,
+        };
+        if take(places, value, value, NONE) != Some(expected) {
+            as_expected = false;
+        }
+    }
+    as_expected
+}
+
+fn evicts(value: u16, reg: Reg) -> Option<Taken> {
+    Some(Taken {
+        reg,
+        evicted: Some((value, value.into())),
+    })
+}
+
+#[test]
+fn the_sixteenth_value_evicts_the_one_that_is_used_last(rt: HostRuntime) -> Result<(), Fail> {
+    let program = program(rt.alloc())?;
+    let plan = Plan::opening(rt.alloc(), &program)?;
+    let mut places = Places::new(rt.alloc(), &program, &plan)?;
+    assert!(rt; program.values() == 24);
+    assert_eq!(rt; places.at(15), Spot::Nowhere);
+    assert!(rt; fill(&mut places));
+    assert_eq!(rt; take(&mut places, 15, 15, NONE), evicts(7, Reg::R8));
+    assert_eq!(rt; places.at(7), Spot::Frame(7));
+    assert_eq!(rt; places.at(15), Spot::Register(Reg::R8));
+    Ok(())
+}
+
+#[test]
+fn a_pinned_register_stays_and_a_tie_goes_to_the_greater_value(
+    rt: HostRuntime,
+) -> Result<(), Fail> {
+    let program = program(rt.alloc())?;
+    let plan = Plan::opening(rt.alloc(), &program)?;
+    let mut places = Places::new(rt.alloc(), &program, &plan)?;
+    assert!(rt; program.values() == 24);
+    assert!(rt; fill(&mut places));
+    assert_eq!(rt; take(&mut places, 15, 15, R8_ALONE), evicts(14, Reg::R15));
+    assert_eq!(rt; places.at(7), Spot::Register(Reg::R8));
+    Ok(())
+}
+
+#[test]
+fn a_value_without_a_next_use_is_evicted_first(rt: HostRuntime) -> Result<(), Fail> {
+    let program = program(rt.alloc())?;
+    let plan = Plan::opening(rt.alloc(), &program)?;
+    let mut places = Places::new(rt.alloc(), &program, &plan)?;
+    assert!(rt; program.values() == 24);
+    assert!(rt; fill(&mut places));
+    assert_eq!(rt; take(&mut places, 15, 19, NONE), evicts(5, Reg::Rsi));
+    places.release(3);
+    assert_eq!(rt; places.at(3), Spot::Nowhere);
+    assert_eq!(rt;
+        take(&mut places, 5, 19, NONE),
+        Some(Taken {
+            reg: Reg::Rbx,
+            evicted: None
+        })
+    );
+    Ok(())
 }
