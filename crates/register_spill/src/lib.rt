@@ -6,11 +6,13 @@
 #![tactic(auto)]
 
 mod choice;
+mod laws;
 mod places;
 mod registers;
 mod spot;
 mod uses;
 
+pub use laws::next_use_is_the_first_slot_that_reads;
 pub use places::Places;
 pub use registers::RegSet;
 pub use spot::{Spot, Taken};
