@@ -1,9 +1,9 @@
 -- For each flag the value that is in it, after the home of a value changes.
-use Rattle.std.proofs.Common.{◌≡◌, ℕ, ◌<◌, ◌≤◌, Bool, true, false, List, length, refl, arith, ap, sym, ◌∙◌, subst}
+use Rattle.std.proofs.Common.{◌≡◌, ℕ, ◌<◌, true, false, List, length, refl, arith, ap, sym, ◌∙◌, subst}
 use Rattle.std.proofs.Common.{None, Some, Option}
-use Rattle.std.specs.Prelude.{map, slice_index_or, slice_set, replicate, if◌then◌else◌}
+use Rattle.std.specs.Prelude.{slice_set, replicate}
 use Rattle.std.proofs.Common.{inl, inr, ◌⊎◌}
-use Rattle.std.proofs.lemmas.Bool.{false_from_ne_true, false≢true, cases_Bool, cases_eq, cases_lt}
+use Rattle.std.proofs.lemmas.Bool.{false_from_ne_true, false≢true, cases_eq, cases_lt}
 use Rattle.std.proofs.lemmas.List.{get_or-set_same, get_or-set_other, get_or_past, get_or-replicate, length-replicate}
 use Rattle.x86_instr.specs.declared.operand.Reg.{Reg}
 use Rattle.x86_instr.specs.declared.flags.Flags.{Flags}
@@ -11,8 +11,8 @@ use Rattle.x86_instr.specs.Flags.{carry_only, overflow_only}
 use Rattle.flag_tracks.specs.declared.home.Home.{Home}
 use Rattle.flag_tracks.specs.declared.home.Home.TheVariants.{Cf, Of, Register, Slot, Gone}
 use Rattle.flag_tracks.specs.Homes.{home_at, is_among, emptied}
-use Rattle.flag_tracks.specs.Inside.{carry_if, overflow_if, IsHolder, IsInside}
-use Rattle.flag_tracks.proofs.HomeLemmas.{emptied_free, emptied_one, free_emptied}
+use Rattle.flag_tracks.specs.Inside.{IsHolder, IsInside}
+use Rattle.flag_tracks.proofs.HomeLemmas.{emptied_one, free_emptied}
 
 -- a value in a flag is one of the program
 pub holder_range : (flags : Flags) (homes : List Home) (value : ℕ) → is_among flags (home_at homes value) ≡ true

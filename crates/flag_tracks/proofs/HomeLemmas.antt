@@ -1,6 +1,6 @@
 -- Lists of homes after a flag is emptied or a value is put.
-use Rattle.std.proofs.Common.{◌≡◌, ℕ, ◌<◌, Bool, true, false, List, [], ◌∷◌, length, refl, arith, ap, sym, ◌∙◌}
-use Rattle.std.specs.Prelude.{map, slice_index_or, slice_set, if◌then◌else◌}
+use Rattle.std.proofs.Common.{◌≡◌, ℕ, ◌<◌, Bool, true, false, List, length, refl, ap, sym, ◌∙◌}
+use Rattle.std.specs.Prelude.{slice_set, if◌then◌else◌}
 use Rattle.std.proofs.Common.{inl, inr}
 use Rattle.std.proofs.lemmas.Bool.{cond-true, cond-false, false_from_ne_true, cases_Bool, cases_eq, cases_lt}
 use Rattle.std.proofs.lemmas.List.{length-map, length-set, ext_get_or, get_or-set_same, get_or-set_other, set_past}
@@ -9,7 +9,7 @@ use Rattle.x86_instr.specs.declared.flags.Flags.{Flags}
 use Rattle.flag_tracks.specs.declared.home.Home.{Home}
 use Rattle.flag_tracks.specs.declared.home.Home.TheVariants.{Cf, Of, Register, Slot, Gone}
 use Rattle.flag_tracks.specs.Homes.{home_at, is_among, emptied}
-use Rattle.flag_tracks.specs.Inside.{carry_if, overflow_if, IsHolder}
+use Rattle.flag_tracks.specs.Inside.{carry_if, overflow_if}
 
 pub at_emptied : (flags : Flags) (homes : List Home) (value : ℕ) → home_at (emptied flags homes) value
     ≡ if is_among flags (home_at homes value) then Gone else home_at homes value

@@ -1,10 +1,10 @@
 -- The farthest candidate of all registers is farther than every other one.
 use Rattle.std.proofs.Common.{◌≡◌, ℕ, zero, suc, ◌+◌, ◌<◌, Bool, true, false, List, [], ◌∷◌, ◌++◌, length, refl, arith, ap, sym}
 use Rattle.std.proofs.Common.{subst, ◌∙◌, inl, inr, ◌⊎◌, Some, None, Option}
-use Rattle.std.specs.Prelude.{◌&&◌, ◌||◌, cond, take, fold, is_none, is_some, slice_index_or, if◌then◌else◌}
+use Rattle.std.specs.Prelude.{◌&&◌, ◌||◌, take, fold, is_none, is_some, slice_index_or, if◌then◌else◌}
 use Rattle.std.specs.List.{list_any}
 use Rattle.std.specs.Option.{option_map}
-use Rattle.std.proofs.lemmas.Bool.{true≢false, false≢true, cases_Bool, cond-true, cond-false}
+use Rattle.std.proofs.lemmas.Bool.{true≢false, false≢true, cases_Bool, cond-true}
 use Rattle.std.proofs.lemmas.Bool.Decides.{nat_tests}
 use Rattle.std.proofs.lemmas.Option.{get_or_from_slice_get, slice_get_within}
 use Rattle.std.proofs.lemmas.List.{take_more}
@@ -15,12 +15,12 @@ use Rattle.x86_instr.proofs.RegisterList.{at_number}
 use Rattle.register_spill.specs.declared.choice.Candidate.{Candidate}
 use Rattle.register_spill.specs.declared.spot.Spot.{Spot}
 use Rattle.register_spill.specs.declared.spot.Spot.TheVariants.{Register}
-use Rattle.register_spill.specs.Spots.{Placed, spot_at, is_free}
-use Rattle.register_spill.specs.Uses.{uses_at, distance, is_past, is_farther}
+use Rattle.register_spill.specs.Spots.{Placed, is_free}
+use Rattle.register_spill.specs.Uses.{uses_at, distance, is_past}
 use Rattle.register_spill.specs.Calls.{is_open, some_open, first_free, IsFarthest}
 use Rattle.register_spill.specs.Choosing.{candidate_in, candidate_of, is_beyond, farther_of, farthest_of}
 use Rattle.register_spill.specs.Inside.{holder_at, IsInside}
-use Rattle.register_spill.proofs.FreeLemmas.{none_passes, not_free, free_same}
+use Rattle.register_spill.proofs.FreeLemmas.{none_passes, free_same}
 
 -- ---- which of two is farther
 

@@ -1,10 +1,10 @@
 -- The first free register by what is kept for each register is the first free one by the spots.
 use Rattle.std.proofs.Common.{◌≡◌, ℕ, zero, suc, ◌<◌, Bool, true, false, List, [], ◌∷◌, length, refl, arith, ap, sym}
 use Rattle.std.proofs.Common.{subst, ◌∙◌, inl, inr, Some, None, Option}
-use Rattle.std.specs.Prelude.{◌&&◌, ◌==◌, cond, not, is_none, slice_index_or, slice_set}
-use Rattle.std.specs.List.{find, list_any, All}
+use Rattle.std.specs.Prelude.{◌&&◌, cond, not, is_none, slice_index_or, slice_set}
+use Rattle.std.specs.List.{find}
 use Rattle.std.specs.Option.{MatchOption}
-use Rattle.std.proofs.lemmas.Bool.{true≢false, false≢true, cases_Bool, cases_eq, cases_lt, eq-eqb, eqb-true, and_parts}
+use Rattle.std.proofs.lemmas.Bool.{false≢true, cases_Bool, cases_eq, eq-eqb, eqb-true, and_parts}
 use Rattle.std.proofs.lemmas.Bool.{false_from_ne_true, cond-true, cond-false}
 use Rattle.std.proofs.lemmas.List.{get_or_default, get_or-set_same, get_or-set_other}
 use Rattle.std.proofs.lemmas.List.Folds.{list_any_none, list_any_at}

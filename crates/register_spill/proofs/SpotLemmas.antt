@@ -1,9 +1,9 @@
 -- For each register the value in it, after a value changes its spot.
-use Rattle.std.proofs.Common.{◌≡◌, ℕ, ◌<◌, Bool, true, false, List, [], ◌∷◌, length, replicate, refl, arith, ap, sym}
+use Rattle.std.proofs.Common.{◌≡◌, ℕ, ◌<◌, true, false, List, length, replicate, refl, arith, ap, sym}
 use Rattle.std.proofs.Common.{subst, ◌∙◌, inl, inr, Some, None, Option}
-use Rattle.std.specs.Prelude.{◌==◌, slice_get, slice_index_or, slice_set}
+use Rattle.std.specs.Prelude.{slice_get, slice_index_or, slice_set}
 use Rattle.std.specs.List.Sorted.{IsNonDecreasing}
-use Rattle.std.proofs.lemmas.Bool.{true≢false, false≢true, cases_lt, cases_eq, eqb-true, eq-eqb, eqb-false, ne_eqb}
+use Rattle.std.proofs.lemmas.Bool.{true≢false, false≢true, cases_lt, cases_eq, eqb-true, eqb-false}
 use Rattle.std.proofs.lemmas.Option.{slice_get_within}
 use Rattle.std.proofs.lemmas.List.{length-set, length-replicate, get_or-set_same, get_or-set_other, get_or_past}
 use Rattle.std.proofs.lemmas.List.{get_or-replicate}
@@ -13,7 +13,7 @@ use Rattle.x86_instr.specs.Registers.{number_of, registers}
 use Rattle.x86_instr.proofs.RegisterList.{at_number}
 use Rattle.register_spill.specs.declared.spot.Spot.{Spot}
 use Rattle.register_spill.specs.declared.spot.Spot.TheVariants.{Register, Frame, Nowhere}
-use Rattle.register_spill.specs.Spots.{spot_at, is_in_register, is_in, ArePlaced}
+use Rattle.register_spill.specs.Spots.{spot_at, is_in_register, ArePlaced}
 use Rattle.register_spill.specs.Uses.{uses_at}
 use Rattle.register_spill.specs.Calls.{is_stack, is_outside}
 use Rattle.register_spill.specs.Inside.{holder_at, IsInside}

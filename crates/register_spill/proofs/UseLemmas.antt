@@ -1,8 +1,8 @@
 -- The lists that the code collects are the uses of each value.
 use Rattle.std.proofs.Common.{◌≡◌, ◌≢◌, ℕ, zero, suc, ◌+◌, ◌-◌, ◌<◌, ◌≤◌, Bool, true, false, List, [], ◌∷◌, ◌++◌, length}
 use Rattle.std.proofs.Common.{drop, replicate, refl, sym, ap, subst, ◌∙◌, arith, inl, inr}
-use Rattle.std.specs.Prelude.{cond, ◌||◌, ◌==◌, Some, map, slice_get, slice_index_or, slice_set, fold}
-use Rattle.std.specs.List.{filter, list_any, range_with_len, All, AllByRecursion}
+use Rattle.std.specs.Prelude.{cond, ◌||◌, ◌==◌, Some, map, slice_get, slice_index_or, slice_set}
+use Rattle.std.specs.List.{filter, list_any, range_with_len, AllByRecursion}
 use Rattle.std.specs.List.Sorted.{IsNonDecreasing}
 use Rattle.std.proofs.lemmas.Bool.{cases_lt}
 use Rattle.std.proofs.lemmas.Bool.Decides.{nat_tests}
@@ -11,7 +11,6 @@ use Rattle.std.proofs.lemmas.List.{get_or-set_same, get_or-set_other, get_or-rep
 use Rattle.std.proofs.lemmas.List.FromFn.{fill_by_all, get_or-map-range_with_len, length-map-range_with_len}
 use Rattle.std.proofs.lemmas.List.FromFn.{length-range_with_len, get_or-range_with_len}
 use Rattle.std.proofs.lemmas.List.Kept.{IsNonDecreasingBy-filter}
-use Rattle.std.proofs.lemmas.Option.{slice_get-get_or}
 use Rattle.word_program.specs.declared.operation.Op.{Op}
 use Rattle.word_program.specs.declared.operation.Operand.{Operand}
 use Rattle.word_program.specs.declared.operation.Operand.TheVariants as operands
@@ -23,7 +22,7 @@ use Rattle.dependency_graph.specs.Transposed.{ends_with, put_last}
 use Rattle.op_order.specs.declared.slot.Slot.{Slot}
 use Rattle.op_order.specs.Plans.{op_at}
 use Rattle.op_order.specs.Windows.{IsDefinedAmong}
-use Rattle.op_order.proofs.Definers.{args_defined, all_at}
+use Rattle.op_order.proofs.Definers.{args_defined}
 use Rattle.register_spill.specs.Uses.{uses_of, all_uses, uses_at}
 use Rattle.register_spill.specs.Entering.{AreOpsWithin, entered_one, entered, args_of, entered_all}
 

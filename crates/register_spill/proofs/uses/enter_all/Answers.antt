@@ -1,7 +1,7 @@
 -- After a slot, the lists are as the slots that are left want them.
 use Rattle.std.proofs.Common.{◌∙◌, ap, arith, length}
 use Rattle.op_order.specs.Plans.{opening_slot}
-use Rattle.register_spill.specs.Entering.{entered, args_of}
+use Rattle.register_spill.specs.Entering.{entered}
 use Rattle.register_spill.proofs.UseLemmas.{enter_all_kept, entered_count, args_at}
 use Rattle.register_spill.proofs.uses.enter_all.Goals as goal
 

@@ -1,5 +1,5 @@
 -- The slots before `now` stand in front of the others.
-use Rattle.std.proofs.Common.{◌≡◌, ◌∙◌, arith, rules, ltb, ltb-true}
+use Rattle.std.proofs.Common.{◌∙◌, arith, rules, ltb, ltb-true}
 use Rattle.std.proofs.lemmas.Bool.{ltb-false}
 use Rattle.std.proofs.lemmas.List.Sorted.{IsPartitionPoint-from_clause, IsPartitionedBy-ltb}
 use Rattle.register_spill.proofs.NextUse.{next_at}

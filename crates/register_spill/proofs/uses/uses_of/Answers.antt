@@ -1,12 +1,12 @@
 -- The lists are the uses.
-use Rattle.std.proofs.Common.{◌≡◌, ◌∙◌, ◌<◌, ℕ, ap, sym, subst, List, length, replicate, []}
+use Rattle.std.proofs.Common.{◌∙◌, ◌<◌, ℕ, ap, sym, subst, List, length, []}
 use Rattle.std.specs.List.{All}
 use Rattle.std.proofs.lemmas.List.{length-replicate}
 use Rattle.word_program.specs.declared.operation.Op.{Op}
 use Rattle.word_program.specs.Values.{targets_of}
 use Rattle.op_order.specs.declared.slot.Slot.{Slot}
 use Rattle.op_order.proofs.LegalLemmas.{legal_ops}
-use Rattle.register_spill.specs.Entering.{AreOpsWithin, entered_all}
+use Rattle.register_spill.specs.Entering.{AreOpsWithin}
 use Rattle.register_spill.proofs.UseLemmas.{ops_within, uses_are}
 use Rattle.register_spill.proofs.uses.uses_of.Goals as goal
 

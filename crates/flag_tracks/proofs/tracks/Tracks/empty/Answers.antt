@@ -1,6 +1,4 @@
 -- Both flags are emptied, one after the other.
-use Rattle.std.proofs.Common.{◌≡◌, ap, ◌∙◌}
-use Rattle.flag_tracks.specs.Homes.{emptied}
 use Rattle.flag_tracks.proofs.HomeLemmas.{emptied_both}
 use Rattle.flag_tracks.proofs.tracks.Tracks.empty.Goals as goal
 

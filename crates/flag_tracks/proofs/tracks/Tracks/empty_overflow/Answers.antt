@@ -1,8 +1,7 @@
 -- The value that was in the overflow flag goes.
-use Rattle.std.proofs.Common.{◌≡◌, Bool, ◌∙◌, sym, ap, subst, arith}
-use Rattle.x86_instr.specs.Flags.{overflow_only, carry_only}
-use Rattle.flag_tracks.specs.declared.home.Home.TheVariants.{Gone}
-use Rattle.flag_tracks.specs.Homes.{emptied, is_among}
+use Rattle.std.proofs.Common.{Bool, ap, subst, arith}
+use Rattle.x86_instr.specs.Flags.{overflow_only}
+use Rattle.flag_tracks.specs.Homes.{emptied}
 use Rattle.flag_tracks.specs.Inside.{overflow_if, IsHolder}
 use Rattle.flag_tracks.proofs.HomeLemmas.{overflow_not_asked, emptied_free}
 use Rattle.flag_tracks.proofs.HolderLemmas.{holder_range, holder_none, emptied_holder}

@@ -1,9 +1,9 @@
 -- The value leaves the flag that it was in.
-use Rattle.std.proofs.Common.{◌≡◌, ◌<◌, ◌∙◌, List, length, sym, ap, subst, refl}
+use Rattle.std.proofs.Common.{◌<◌, ◌∙◌, List, length, sym, subst, refl}
 use Rattle.std.specs.Prelude.{slice_set}
 use Rattle.std.proofs.lemmas.List.{get_or_read}
 use Rattle.flag_tracks.specs.declared.home.Home.{Home}
-use Rattle.flag_tracks.specs.declared.home.Home.TheVariants.{Cf, Of, Register, Slot, Gone}
+use Rattle.flag_tracks.specs.declared.home.Home.TheVariants.{Gone}
 use Rattle.flag_tracks.specs.declared.tracks.Tracks.TheInside.{Inside}
 use Rattle.flag_tracks.specs.Inside.{IsInside}
 use Rattle.flag_tracks.proofs.HolderLemmas.{lost_carry, lost_overflow, moved, IsNoFlag, no_flag}

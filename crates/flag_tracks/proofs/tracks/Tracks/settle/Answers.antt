@@ -1,9 +1,9 @@
 -- The value is in the flag that it is put into.
-use Rattle.std.proofs.Common.{◌≡◌, ◌<◌, ◌∙◌, List, length, sym, ap, subst, refl}
+use Rattle.std.proofs.Common.{◌≡◌, ◌<◌, List, length, sym, subst}
 use Rattle.std.specs.Prelude.{slice_set}
 use Rattle.flag_tracks.specs.Homes.{home_at, emptied, flag_of}
 use Rattle.flag_tracks.specs.declared.home.Home.{Home}
-use Rattle.flag_tracks.specs.declared.home.Home.TheVariants.{Cf, Of, Register, Slot, Gone}
+use Rattle.flag_tracks.specs.declared.home.Home.TheVariants.{Cf, Of, Gone}
 use Rattle.flag_tracks.specs.declared.tracks.Tracks.TheInside.{Inside}
 use Rattle.flag_tracks.specs.Inside.{IsInside}
 use Rattle.flag_tracks.proofs.HolderLemmas.{moved, put_in_carry, put_in_overflow, no_flag, no_flag_gone}

@@ -1,5 +1,5 @@
 -- What is kept says it.
-use Rattle.std.proofs.Common.{List, subst}
+use Rattle.std.proofs.Common.{subst}
 use Rattle.register_spill.specs.Spots.{ArePlaced, Placed}
 use Rattle.register_spill.proofs.SpotLemmas.{placed}
 use Rattle.register_spill.proofs.places.Places.at.Goals as goal

@@ -1,5 +1,5 @@
 -- No value is in a register.
-use Rattle.std.proofs.Common.{◌≡◌, ◌∙◌, ℕ, List, length, ap, sym, subst}
+use Rattle.std.proofs.Common.{◌∙◌, ℕ, List, length, ap, sym, subst}
 use Rattle.std.specs.List.Sorted.{IsNonDecreasing}
 use Rattle.register_spill.specs.Uses.{uses_at}
 use Rattle.register_spill.proofs.SpotLemmas.{nothing_placed}

@@ -1,8 +1,7 @@
 -- The farthest value leaves its register.
-use Rattle.std.proofs.Common.{◌≡◌, ◌∙◌, ◌<◌, ℕ, List, length, Some, None, Option, true, ap, sym, subst}
+use Rattle.std.proofs.Common.{◌≡◌, ◌∙◌, ◌<◌, ℕ, List, length, Some, None, true, ap, sym, subst}
 use Rattle.std.specs.Prelude.{is_some, slice_set}
 use Rattle.x86_instr.specs.Registers.{registers}
-use Rattle.register_spill.specs.declared.choice.Candidate.{Candidate}
 use Rattle.register_spill.specs.declared.spot.Spot.TheVariants.{Frame, Register}
 use Rattle.register_spill.specs.Spots.{Placed, is_free, spot_at}
 use Rattle.register_spill.specs.Calls.{first_free, with_spot}

@@ -1,8 +1,8 @@
 -- The first free register by the spots is the one that the code found.
-use Rattle.std.proofs.Common.{◌≡◌, ◌∙◌, Option, sym, subst}
+use Rattle.std.proofs.Common.{◌∙◌, Option, sym, subst}
 use Rattle.std.specs.Option.{MatchOption}
 use Rattle.x86_instr.specs.declared.operand.Reg.{Reg}
-use Rattle.register_spill.specs.Calls.{first_free, Evicts, TakesFree}
+use Rattle.register_spill.specs.Calls.{Evicts, TakesFree}
 use Rattle.register_spill.proofs.FreeLemmas.{first_found, first_is, not_stack, takes_free}
 use Rattle.register_spill.proofs.places.Places.take.Goals as goal
 
