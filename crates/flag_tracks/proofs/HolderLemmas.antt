@@ -42,7 +42,8 @@ holder_kept flags homes holder value home w held out new = record {
     | inr ne ↦ held.is other (sym (set_other flags homes value home other ne) ∙ t)
   ];
   has = λ other e. elim (cases_eq other value) [
-    | inl same ↦ absurd (false≢true (sym out ∙ ap (λ (n : ℕ). is_among flags (home_at homes n)) (sym same) ∙ held.has other e))
+    | inl same ↦ absurd (false≢true (sym out ∙ ap (λ (n : ℕ). is_among flags (home_at homes n)) (sym same)
+        ∙ held.has other e))
     | inr ne ↦ set_other flags homes value home other ne ∙ held.has other e
   ];
 }
@@ -96,7 +97,8 @@ gone_at count value = elim (cases_lt value count) [
 pub none_at_first : (flags : Flags) (homes : List Home) (count : ℕ) → homes ≡ replicate count Gone
     → IsHolder flags homes None
 none_at_first flags homes count e = record {
-  is = λ value t. let gone : home_at homes value ≡ Gone = ap (λ (hs : List Home). home_at hs value) e ∙ gone_at count value in
+  is = λ value t. let gone : home_at homes value ≡ Gone = ap (λ (hs : List Home). home_at hs value) e
+      ∙ gone_at count value in
       let no : is_among flags Gone ≡ true = ap (is_among flags) (sym gone) ∙ t in absurd (false≢true no);
   has = λ value h. cc;
 }
@@ -139,7 +141,8 @@ pub put_in_carry : (homes : List Home) (carry overflow : Option ℕ) (value : �
     → IsInside (slice_set homes value Cf) (Some value) overflow
 put_in_carry homes carry overflow value w e free inside = record {
   carry_is = holder_new carry_only homes value Cf w (free_emptied carry_only homes free) refl;
-  overflow_is = holder_kept overflow_only homes overflow value Cf w inside.overflow_is (ap (is_among overflow_only) e) refl;
+  overflow_is = holder_kept overflow_only homes overflow value Cf w inside.overflow_is (ap
+      (is_among overflow_only) e) refl;
 }
 
 pub put_in_overflow : (homes : List Home) (carry overflow : Option ℕ) (value : ℕ) → value < length homes

@@ -77,7 +77,8 @@ one_home flags Gone = refl
 pub emptied_both : (flags : Flags) (homes : List Home)
     → emptied (overflow_if flags.of) (emptied (carry_if flags.cf) homes) ≡ emptied flags homes
 emptied_both flags homes = ext_get_or Gone _ _
-    (length_emptied (overflow_if flags.of) (emptied (carry_if flags.cf) homes) ∙ length_emptied (carry_if flags.cf) homes
+    (length_emptied (overflow_if flags.of) (emptied (carry_if flags.cf) homes)
+    ∙ length_emptied (carry_if flags.cf) homes
     ∙ sym (length_emptied flags homes))
     (λ i h. at_emptied (overflow_if flags.of) (emptied (carry_if flags.cf) homes) i
     ∙ ap (λ (home : Home). if is_among (overflow_if flags.of) home then Gone else home)

@@ -1,5 +1,6 @@
--- Where the values of a program are kept. The flags that an instruction writes are those of the Intel Software Developer's
--- Manual, volume 2, under the instruction's name, "Flags Affected"; one that it leaves undefined is written too.
+-- Where the values of a program are kept. The flags that an instruction writes are those of the Intel Software
+-- Developer's Manual, volume 2, under the instruction's name, "Flags Affected"; one that it leaves undefined is written
+-- too.
 use Rattle.std.specs.Prelude.{◌≡◌, ℕ, Bool, false, List, map, slice_index_or, slice_set, if◌then◌else◌}
 use Rattle.x86_instr.specs.declared.instr.Instr.{Instr}
 use Rattle.x86_instr.specs.declared.flags.Flags.{Flags}

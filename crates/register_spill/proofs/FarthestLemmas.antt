@@ -1,5 +1,6 @@
 -- The farthest candidate of all registers is farther than every other one.
-use Rattle.std.proofs.Common.{◌≡◌, ℕ, zero, suc, ◌+◌, ◌<◌, Bool, true, false, List, [], ◌∷◌, ◌++◌, length, refl, arith, ap, sym}
+use Rattle.std.proofs.Common.{◌≡◌, ℕ, zero, suc, ◌+◌, ◌<◌, Bool, true, false, List, [], ◌∷◌, ◌++◌, length, refl}
+use Rattle.std.proofs.Common.{arith, ap, sym}
 use Rattle.std.proofs.Common.{subst, ◌∙◌, inl, inr, ◌⊎◌, Some, None, Option}
 use Rattle.std.specs.Prelude.{◌&&◌, ◌||◌, take, fold, is_none, is_some, slice_index_or, if◌then◌else◌}
 use Rattle.std.specs.List.{list_any}
@@ -72,7 +73,8 @@ step_keeps (Some x) None c beats = let never : None ≡ Some beats.b = beats.is 
 step_keeps (Some x) (Some b) c beats =
     let same : b ≡ beats.b = cc in
     step_two x b c (is_beyond x b) refl
-    (subst (λ (y : Candidate). ((y.next ≡ c.next) × (y.value ≡ c.value)) ⊎ Past y.next y.value c.next c.value) (sym same)
+    (subst (λ (y : Candidate). ((y.next ≡ c.next) × (y.value ≡ c.value)) ⊎ Past y.next y.value c.next c.value)
+    (sym same)
     beats.far)
 
 step_takes : (c : Candidate) (best : Option Candidate) → Beats (farther_of (Some c) best) c

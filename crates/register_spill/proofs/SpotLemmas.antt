@@ -93,7 +93,8 @@ nothing_placed spots uses values e count rise = record {
     gone : (v : ℕ) → spot_at (replicate values Nowhere) v ≡ Nowhere
     gone v = elim (cases_lt v values) [
       | inl h ↦ get_or-replicate values v Nowhere Nowhere h
-      | inr h ↦ let l = length-replicate values Nowhere in get_or_past (replicate values Nowhere) v Nowhere (omega arith)
+      | inr h ↦ let l = length-replicate values Nowhere in get_or_past (replicate values Nowhere) v Nowhere
+          (omega arith)
     ]
 
     nowhere : (v : ℕ) → spot_at spots v ≡ Nowhere
@@ -137,7 +138,8 @@ entered_inside spots holders uses value r inside w out free stack = record {
   stack = holder_other holders r Rsp (Some value)
       (λ n. eqb-false (number_of r) (number_of Rsp) stack (sym n)) ∙ inside.stack;
   frames = λ v slot e. elim (cases_eq v value) [
-    | inl same ↦ let never : Register r ≡ Frame slot = sym (spot_same spots value v (Register r) w same) ∙ e in absurd cc
+    | inl same ↦ let never : Register r ≡ Frame slot = sym (spot_same spots value v (Register r) w same)
+        ∙ e in absurd cc
     | inr ne ↦ inside.frames v slot (sym (spot_other spots value v (Register r) ne) ∙ e)
   ];
   lists = inside.lists ∙ sym (length-set spots value (Register r));

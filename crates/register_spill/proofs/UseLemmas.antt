@@ -1,5 +1,6 @@
 -- The lists that the code collects are the uses of each value.
-use Rattle.std.proofs.Common.{◌≡◌, ◌≢◌, ℕ, zero, suc, ◌+◌, ◌-◌, ◌<◌, ◌≤◌, Bool, true, false, List, [], ◌∷◌, ◌++◌, length}
+use Rattle.std.proofs.Common.{◌≡◌, ◌≢◌, ℕ, zero, suc, ◌+◌, ◌-◌, ◌<◌, ◌≤◌, Bool, true, false, List, [], ◌∷◌, ◌++◌}
+use Rattle.std.proofs.Common.{length}
 use Rattle.std.proofs.Common.{drop, replicate, refl, sym, ap, subst, ◌∙◌, arith, inl, inr}
 use Rattle.std.specs.Prelude.{cond, ◌||◌, ◌==◌, Some, map, slice_get, slice_index_or, slice_set}
 use Rattle.std.specs.List.{filter, list_any, range_with_len, AllByRecursion}
@@ -85,7 +86,8 @@ value_step : (at n value : ℕ) (uses : List (List ℕ)) (list : List ℕ) (b t 
 value_step at n value uses list b true e h all is =
     let same : n ≡ value = same_value value n e in
     subst (λ (p : ℕ). uses_at (slice_set uses p (put_last at (uses_at uses p))) value ≡ list ++ at ∷ []) (sym same)
-    (get_or-set_same uses value (put_last at (uses_at uses value)) [] h ∙ ap (put_last at) is ∙ put_marked at list b all)
+    (get_or-set_same uses value (put_last at (uses_at uses value)) [] h ∙ ap (put_last at) is
+    ∙ put_marked at list b all)
 value_step at n value uses list b false e h all is =
     get_or-set_other uses n value (put_last at (uses_at uses n)) [] (other_value value n e) ∙ is
 
@@ -152,7 +154,8 @@ entered_all_at (slot ∷ slots) ops at value uses list h all is =
     let one = entered_at args at value uses list false h all (is ∙ sym (append-nil list)) in
     let size : value < length (entered at uses args) = omega (arith, h, entered_count args at uses) in
     let b = slot_reads ops value slot.op in
-    entered_all_at slots ops (at + 1) value (entered at uses args) (marked at list b) size (before_more list at b all) one
+    entered_all_at slots ops (at + 1) value (entered at uses args) (marked at list b) size
+    (before_more list at b all) one
     ∙ append_assoc list (cond b (at ∷ []) []) (uses_from ops value (at + 1) slots)
 
 entered_all_count : (slots : List Slot) (ops : List Op) (at : ℕ) (uses : List (List ℕ))
@@ -265,7 +268,8 @@ enter_kept at start now args i d whole new h kept is =
     record {
       lists = kept_here.lists ∙ ap (λ (ls : List (List ℕ)). entered at ls (drop (i + 1) args)) (sym is);
       count = size ∙ kept_here.count;
-      operands = subst (λ (n : ℕ). AllByRecursion (IsDefinedAmong n) (drop (i + 1) args)) (sym size) kept_here.operands.1;
+      operands = subst (λ (n : ℕ). AllByRecursion (IsDefinedAmong n) (drop (i + 1) args))
+          (sym size) kept_here.operands.1;
     }
 
 pub enter_all_kept : (ops : List Op) (at : ℕ) (now : List (List ℕ)) (slots : List Slot) (i : ℕ) (d : Slot)
@@ -287,7 +291,11 @@ within_from : (values : ℕ) (ops : List Op)
     → ((k : ℕ) (d : Op) → k < length ops → AllByRecursion (IsDefinedAmong values) (slice_index_or ops k d).args)
     → AreOpsWithin values ops
 within_from values [] all = tt
-within_from values (op ∷ ops) all = (all 0 op (omega arith), within_from values ops (λ k d h. all (suc k) d (omega arith)))
+within_from values (op ∷ ops) all = (
+  all 0 op (omega arith),
+  within_from values ops (λ k d h. all (suc k) d
+      (omega arith)),
+)
 
 pub ops_within : (program : Source) → IsAccepted program
     → AreOpsWithin (length (targets_of program.ops)) program.ops

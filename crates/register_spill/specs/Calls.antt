@@ -1,5 +1,6 @@
 -- What the calls do.
-use Rattle.std.specs.Prelude.{◌≡◌, ℕ, ◌^◌, ◌/◌, ◌%◌, Bool, true, false, not, ◌&&◌, ◌==◌, List, Option, Some, None, slice_set}
+use Rattle.std.specs.Prelude.{◌≡◌, ℕ, ◌^◌, ◌/◌, ◌%◌, Bool, true, false, not, ◌&&◌, ◌==◌, List, Option, Some, None}
+use Rattle.std.specs.Prelude.{slice_set}
 use Rattle.std.specs.List.{find, list_any}
 use Rattle.std.specs.Option.{MatchOption}
 use Rattle.x86_instr.specs.declared.operand.Reg.{Reg}
@@ -17,6 +18,7 @@ use Rattle.register_spill.specs.Uses.{is_farther}
 abbrev pub is_pinned : ℕ → Reg → Bool
 is_pinned bits r = (bits / 2 ^ number_of r) % 2 == 1
 
+-- the register is the stack pointer
 abbrev pub is_stack : Reg → Bool
 is_stack r = number_of r == number_of Rsp
 

@@ -1,5 +1,5 @@
--- How the code collects the uses; no part of a promise. It puts each slot at the end of the lists of the values that the
--- slot's operation reads.
+-- How the code collects the uses; no part of a promise. It puts each slot at the end of the lists of the values that
+-- the slot's operation reads.
 use Rattle.std.specs.Prelude.{ℕ, ◌+◌, List, [], ◌∷◌, fold, slice_get, slice_set}
 use Rattle.std.specs.List.{AllByRecursion}
 use Rattle.std.specs.Option.{option_map_or}

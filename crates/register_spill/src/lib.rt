@@ -1,8 +1,8 @@
 //! Which value of a program is in which register or slot of the frame, while its listing is written.
 //!
 //! It promises to whoever chooses instructions that no register holds two values, that a register which
-//! [`Places::take`] gives is neither `rsp` nor one that the caller pinned, and that where no register is free, the value
-//! whose next use in the plan is farthest goes to its slot of the frame. Only [`Places::new`] takes memory.
+//! [`Places::take`] gives is neither `rsp` nor one that the caller pinned, and that where no register is free, the
+//! value whose next use in the plan is farthest goes to its slot of the frame. Only [`Places::new`] takes memory.
 #![tactic(auto)]
 
 mod choice;

@@ -52,7 +52,8 @@ impl Places {
     /// of operands.
     pub fn new(alloc: Global, program: &Program, plan: &Plan) -> Result<Places, AllocError>
         requires { IsLegal program.now plan.now.slots }
-        ensures spots { IfOk result (λ places. places.spots ≡ replicate (length (targets_of program.entry.now.ops)) Nowhere) }
+        ensures spots { IfOk result (λ places.
+            places.spots ≡ replicate (length (targets_of program.entry.now.ops)) Nowhere) }
         ensures uses { IfOk result (λ places. places.uses ≡ all_uses program.entry.now plan.entry.now.slots) }
     {
         let spots = nowhere(alloc, program.values())?;
@@ -76,8 +77,8 @@ impl Places {
 
     /// Puts the value, which is in no register, into one that is neither `rsp` nor pinned: the free one with the lowest
     /// number, else the one of the value whose next use at or after the slot `now` of the plan is farthest, which goes
-    /// to its slot of the frame. A value without a next use is farther than any other, and of two that are as far, it is
-    /// the one with the greater number. Every other value stays where it is.
+    /// to its slot of the frame. A value without a next use is farther than any other, and of two that are as far, it
+    /// is the one with the greater number. Every other value stays where it is.
     pub fn take(&mut self, value: u16, now: u16, pinned: RegSet) -> Taken
         requires value { value < length self.old.spots }
         requires outside { is_in_register (spot_at self.old.spots value) ≡ false }

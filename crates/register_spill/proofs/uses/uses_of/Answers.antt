@@ -20,7 +20,8 @@ enter_all-requires-clause-ops c =
 pub enter_all-requires-clause-slots : goal.enter_all-requires-clause-slots
 enter_all-requires-clause-slots c =
     subst (λ (ops : List Op). All (λ slot. slot.op < length ops) c.slots.result.now) (sym c.ops.ensures.ops)
-    (subst (λ (slots : List Slot). All (λ slot. slot.op < length c.args.program.now.ops) slots) (sym c.slots.ensures.slots)
+    (subst (λ (slots : List Slot). All (λ slot. slot.op < length c.args.program.now.ops) slots)
+    (sym c.slots.ensures.slots)
     (legal_ops c.args.program.now c.args.plan.now.slots c.requires))
 
 pub returns : goal.returns

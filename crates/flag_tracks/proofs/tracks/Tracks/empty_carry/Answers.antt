@@ -13,7 +13,8 @@ returns-then-not-asked c = carry_not_asked c.args.self.now c.args.asked c.if-not
 pub returns-in_default : goal.returns-in_default
 returns-in_default c =
     let held = subst (IsHolder carry_only c.self.inside.homes.items) c.in_default.is c.self.invariant.carry_is in
-    let free = emptied_free carry_only c.self.inside.homes.items (holder_none carry_only c.self.inside.homes.items held) in
+    let free = emptied_free carry_only c.self.inside.homes.items
+    (holder_none carry_only c.self.inside.homes.items held) in
     let asked = ap (λ (asked : Bool). emptied (carry_if asked) c.args.self.now) c.if-not-asked.false in
     let view = c.self.view_is in cc
 

@@ -24,7 +24,8 @@ pub returns-clause-homes : goal.returns-clause-homes
 unfolding put_home
 returns-clause-homes c = c.settle.ensures ∙ ap (λ hs. slice_set hs c.args.value c.args.home) (c.lose.ensures)
     ∙ set-set c.empty.new.self c.args.value Gone c.args.home
-    ∙ ap (λ hs. slice_set hs c.args.value c.args.home) (c.empty.ensures ∙ ap (λ f. emptied f c.args.self.now) c.flag_of.ensures)
+    ∙ ap (λ hs. slice_set hs c.args.value c.args.home) (c.empty.ensures
+    ∙ ap (λ f. emptied f c.args.self.now) c.flag_of.ensures)
 
 pub returns-clause-count : goal.returns-clause-count
 returns-clause-count c = ap length c.settle.ensures ∙ length-set c.lose.new.self c.args.value c.args.home

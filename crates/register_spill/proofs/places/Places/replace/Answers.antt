@@ -29,13 +29,15 @@ unwrap-found-requires c =
 pub leave-requires-clause-there : goal.leave-requires-clause-there
 leave-requires-clause-there c =
     (chosen c.self.inside.spots.items c.self.inside.holders c.self.inside.uses.items c.as_slice.result.now
-    c.self.invariant c.args.now c.args.pinned.bits c.args.self.now c.farthest.result c.unwrap-found.result c.self.view_is
+    c.self.invariant c.args.now c.args.pinned.bits c.args.self.now c.farthest.result c.unwrap-found.result
+    c.self.view_is
     c.as_slice.ensures.value c.farthest.ensures c.unwrap-found.ensures).there
 
 pub enter-requires-clause-free : goal.enter-requires-clause-free
 enter-requires-clause-free c =
     let far = chosen c.self.inside.spots.items c.self.inside.holders c.self.inside.uses.items c.as_slice.result.now
-    c.self.invariant c.args.now c.args.pinned.bits c.args.self.now c.farthest.result c.unwrap-found.result c.self.view_is
+    c.self.invariant c.args.now c.args.pinned.bits c.args.self.now c.farthest.result c.unwrap-found.result
+    c.self.view_is
     c.as_slice.ensures.value c.farthest.ensures c.unwrap-found.ensures in
     subst (λ (p : Placed). is_free p.spots c.unwrap-found.result.reg ≡ true) (sym c.leave.ensures)
     (subst (λ (p : Placed). is_free (slice_set p.spots c.unwrap-found.result.value (Frame c.into.result))
@@ -48,7 +50,8 @@ enter-requires-clause-free c =
 pub enter-requires-clause-not_stack : goal.enter-requires-clause-not_stack
 enter-requires-clause-not_stack c = not_stack c.args.pinned.bits c.unwrap-found.result.reg
     (chosen c.self.inside.spots.items c.self.inside.holders c.self.inside.uses.items c.as_slice.result.now
-    c.self.invariant c.args.now c.args.pinned.bits c.args.self.now c.farthest.result c.unwrap-found.result c.self.view_is
+    c.self.invariant c.args.now c.args.pinned.bits c.args.self.now c.farthest.result c.unwrap-found.result
+    c.self.view_is
     c.as_slice.ensures.value c.farthest.ensures c.unwrap-found.ensures).may_go
 
 pub returns : goal.returns
