@@ -4,6 +4,7 @@ ghost use Rattle.op_order.specs.Legal.{IsLegal};
 use crate::programs::{cut, program};
 use crate::rows::{PRODUCTS, SHIFTS, SUMS, WORDS};
 use asm_text::write;
+use cost_table::cost;
 use mutations::{Mutation, apply};
 use op_order::Plan;
 use plain_lower::plain;
@@ -98,5 +99,22 @@ fn words_are_computed_in_rax(rt: HostRuntime) -> Result<(), Fail> {
 #[test]
 fn shifts_and_choices_have_their_blocks(rt: HostRuntime) -> Result<(), Fail> {
     assert_eq!(rt; first_wrong(rt.alloc(), SHIFTS)?, None);
+    Ok(())
+}
+
+// The carry of the sum goes in and comes out through the overflow flag.
+#[test]
+fn a_sum_by_the_overflow_flag_costs_two_more(rt: HostRuntime) -> Result<(), Fail> {
+    let program = program(
+        rt.alloc(),
+        "add1",
+        "",
+        "out1 u64[2],arg1 u1,arg2 u64,arg3 u64",
+        "addcarryx out1[0],out1[1] arg1,arg2,arg3",
+    )?;
+    let mut plan = Plan::opening(rt.alloc(), &program)?;
+    assert_eq!(rt; cost(&plain(rt.alloc(), &program, &plan)?), 50);
+    choose(&program, &mut plan, 2);
+    assert_eq!(rt; cost(&plain(rt.alloc(), &program, &plan)?), 52);
     Ok(())
 }
