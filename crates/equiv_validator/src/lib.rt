@@ -5,7 +5,8 @@
 //! that the calling convention allows it stores the program's outputs, restores the saved registers, and changes
 //! nothing but outputs and frame. Where it says `Not`, it tells the first failure. And it promises to whoever searches
 //! for listings that [`Checked::checked`] answers `Yes` exactly where the listing is proved and realises its plan too,
-//! and that a [`Checked`] keeps all of this (`specs/Kept.antt`, `specs/Answers.antt`).
+//! and that a [`Checked`] keeps all of this (`specs/Kept.antt`, `specs/Answers.antt`). To whoever writes listings it
+//! tells by [`first_difference`] whether one realises its plan.
 #![tactic(auto)]
 
 mod checked;
@@ -19,4 +20,5 @@ mod verdict;
 pub use checked::{Answer, Checked};
 pub use checking::{check, check_on};
 pub use prepared::Prepared;
+pub use realising::first_difference;
 pub use verdict::{Proof, Verdict, Why};
