@@ -14,7 +14,7 @@ use Rattle.command_frame.specs.Ends.{Calls, AreRead, StopsAtLoad, StopsAtWork, P
 use Rattle.command_frame.specs.Ends.{OnRefusal, Ends, RefusesWork}
 
 -- from one moment to another
-abbrev between : View → View → Change
+abbrev pub between : View → View → Change
 between a b = record { before = a; after = b }
 
 stays : (before after : Option (List ℕ)) → after ≡ before → Stays before after

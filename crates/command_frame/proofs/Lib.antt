@@ -1,2 +1,5 @@
 -- The lemmas of this crate.
 pub mod Ending
+pub mod Journals
+pub mod Programs
+pub mod Storing

@@ -8,6 +8,8 @@ use Rattle.x86_instr.specs.declared.listing.ListingFault.TheVariants as causes
 use Rattle.asm_operands.specs.Names.{reg_text}
 use Rattle.equiv_validator.specs.declared.verdict.Why.{Why}
 use Rattle.equiv_validator.specs.declared.verdict.Why.TheVariants as whys
+use Rattle.journal_replay.specs.declared.fault.ReplayFault.{ReplayFault}
+use Rattle.journal_replay.specs.declared.fault.ReplayFault.TheVariants as replays
 use Rattle.command_frame.specs.declared.status.Status.{Status}
 use Rattle.command_frame.specs.declared.status.Status.TheVariants as statuses
 
@@ -25,6 +27,9 @@ exit_of (statuses.Not why) = 10
 exit_of (statuses.Stuck line) = 11
 exit_of (statuses.Inputs given wanted) = 12
 exit_of (statuses.OutOfBounds word) = 13
+exit_of (statuses.Journal line) = 14
+exit_of (statuses.Version found) = 15
+exit_of (statuses.Replay fault) = 16
 exit_of statuses.OutOfMemory = 17
 
 abbrev pub section_text : Section → List ℕ
@@ -68,6 +73,22 @@ why_text (whys.Output word source listing) = difference_text word source listing
 why_text (whys.Saved reg) = codes "register " ++ reg_text reg
 why_text whys.Stack = codes "stack"
 
+-- the first entry that breaks a rule, and the two costs that differ
+unfoldable pub entry_text : ℕ → ℕ → List ℕ
+entry_text number rule = codes "replay: entry " ++ (decimal number ++ (codes " rule " ++ decimal rule))
+
+unfoldable pub costs_text : ℕ → ℕ → List ℕ
+costs_text recorded table = codes "replay: cost " ++ (decimal recorded ++ (codes " table " ++ decimal table))
+
+-- why a journal and a listing do not replay; want of memory is a status of its own
+abbrev pub replay_text : ReplayFault → List ℕ
+replay_text (replays.Digest journal program) = codes "replay: digest"
+replay_text (replays.Entry number rule) = entry_text number rule
+replay_text (replays.Realises slot) = codes "replay: slot " ++ decimal slot
+replay_text (replays.Cost recorded table) = costs_text recorded table
+replay_text (replays.NotProved why) = codes "replay: " ++ (codes "not proved: " ++ why_text why)
+replay_text replays.Memory = codes "out of memory"
+
 unfoldable pub inputs_text : ℕ → ℕ → List ℕ
 inputs_text given wanted = decimal given ++ (codes " inputs, " ++ (decimal wanted ++ codes " wanted"))
 
@@ -89,4 +110,7 @@ line_of (statuses.Not why) = codes "not proved: " ++ why_text why
 line_of (statuses.Stuck line) = codes "stuck at " ++ decimal line
 line_of (statuses.Inputs given wanted) = inputs_text given wanted
 line_of (statuses.OutOfBounds word) = out_of_bounds_text word
+line_of (statuses.Journal line) = codes "journal line " ++ decimal line
+line_of (statuses.Version found) = codes "journal version " ++ decimal found
+line_of (statuses.Replay fault) = replay_text fault
 line_of statuses.OutOfMemory = codes "out of memory"

@@ -5,12 +5,16 @@
 //! and why it refuses them. The loads and the writes that commands share are here.
 #![tactic(auto)]
 
+mod digested;
 mod format;
+mod journal;
 mod loading;
 mod status;
 mod writing;
 
-pub use format::{ASM_LIMIT, Format, PROGRAM_LIMIT};
+pub use digested::{DigestedProgram, load_digested_program};
+pub use format::{ASM_LIMIT, Format, JOURNAL_LIMIT, PROGRAM_LIMIT};
+pub use journal::load_journal;
 pub use loading::{load_listing, load_program};
 pub use status::{Status, exit_of, line_of};
-pub use writing::{output_name, say_text, store_and_say};
+pub use writing::{output_name, say_text, store_and_say, store_both_and_say};

@@ -40,7 +40,7 @@ pub fn load_listing<S: Shelf>(alloc: Global, name: Text, shelf: &mut S) -> Resul
 }
 
 /// The bytes of a file that is to be read as this, which are not too many.
-fn bytes_of<S: Shelf>(
+pub fn bytes_of<S: Shelf>(
     alloc: Global,
     name: Text,
     format: Format,
@@ -60,7 +60,7 @@ fn bytes_of<S: Shelf>(
 }
 
 /// The program that the bytes are, or the status of the command that wants it.
-fn read_program(alloc: Global, bytes: &[u8]) -> Result<Program, Status>
+pub fn read_program(alloc: Global, bytes: &[u8]) -> Result<Program, Status>
     requires { length bytes.now ≤ PROGRAM_LIMIT }
     ensures program { IfOk result (λ p. files.IsRead Format.Program (Some bytes.now) (files.Program p)) }
     ensures refused { IfErr result (λ status. files.RefusesFile status Format.Program (Some bytes.now)) }

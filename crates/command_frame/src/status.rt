@@ -2,12 +2,14 @@ ghost use Rattle.std.specs.Prelude.{◌≡◌, ◌++◌, IfOk, OnOk, codes, deci
 ghost use Rattle.command_frame.specs.Status.{exit_of, listing_text, section_text, code_text, place_text, too_long_text};
 ghost use Rattle.command_frame.specs.Status.{program_fault_text, inputs_text, out_of_bounds_text, line_of};
 ghost use Rattle.command_frame.specs.Status.{node_text, difference_text, why_text};
+ghost use Rattle.command_frame.specs.Status.{entry_text, costs_text, replay_text};
 ghost use Rattle.asm_operands.specs.Names.{reg_text};
 
 use asm_operands::register_name;
 use base::Text;
 use equiv_validator::Why;
 use itoa::Buffer;
+use journal_replay::ReplayFault;
 use std::alloc::{AllocError, Global};
 use word_text::{Place, Section};
 use x86_instr::{ListingFault, Reg};
@@ -41,6 +43,13 @@ pub enum Status {
     Inputs { given: u64, wanted: u64 },
     /// This input word, counted from 0, is the first one outside its bounds.
     OutOfBounds(u32),
+    /// This line of the journal's file, counted from 1, is the first that is faulty. Where the text ends early, it is
+    /// the number of its whole lines plus 1.
+    Journal(u32),
+    /// Line 1 of the journal's file is right but for this number, which is no version that is read.
+    Version(u64),
+    /// The journal and the listing do not replay, and this check is the first that fails.
+    Replay(ReplayFault),
     /// There is no memory left.
     OutOfMemory,
 }
@@ -63,6 +72,9 @@ pub fn exit_of(status: &Status) -> u8
         Status::Stuck(_) => 11,
         Status::Inputs { .. } => 12,
         Status::OutOfBounds(_) => 13,
+        Status::Journal(_) => 14,
+        Status::Version(_) => 15,
+        Status::Replay(_) => 16,
         Status::OutOfMemory => 17,
     }
 }
@@ -89,12 +101,15 @@ fn push_line(line: &mut String, status: &Status) -> Result<(), AllocError>
         Status::NotJson => line.push_str("not JSON"),
         Status::Program(code, place) => push_program_fault(line, *code, *place),
         Status::WriteFault(name) => push_named(line, "cannot write ", name),
-        Status::Text(number) => push_numbered(line, "assembly line ", *number),
+        Status::Text(number) => push_numbered(line, "assembly line ", *number as u64),
         Status::Listing(fault) => line.push_str(listing_text(*fault)),
         Status::Not(why) => push_not_proved(line, *why),
-        Status::Stuck(number) => push_numbered(line, "stuck at ", *number),
+        Status::Stuck(number) => push_numbered(line, "stuck at ", *number as u64),
         Status::Inputs { given, wanted } => push_inputs(line, *given, *wanted),
         Status::OutOfBounds(word) => push_out_of_bounds(line, *word),
+        Status::Journal(number) => push_numbered(line, "journal line ", *number as u64),
+        Status::Version(found) => push_numbered(line, "journal version ", *found),
+        Status::Replay(fault) => push_replay(line, *fault),
         Status::OutOfMemory => line.push_str("out of memory"),
     }
 }
@@ -106,7 +121,7 @@ fn push_named(line: &mut String, front: &str, name: &Text) -> Result<(), AllocEr
     line.push_str(name.as_str())
 }
 
-fn push_numbered(line: &mut String, front: &str, number: u32) -> Result<(), AllocError>
+fn push_numbered(line: &mut String, front: &str, number: u64) -> Result<(), AllocError>
     ensures { OnOk result (string_bytes line.new ≡ string_bytes line.old ++ (front.now ++ decimal number)) }
 {
     line.push_str(front)?;
@@ -133,6 +148,46 @@ fn push_too_long(line: &mut String, name: &str, limit: u64) -> Result<(), AllocE
     Ok(())
 }
 
+fn push_replay(line: &mut String, fault: ReplayFault) -> Result<(), AllocError>
+    ensures { OnOk result (string_bytes line.new ≡ string_bytes line.old ++ replay_text fault) }
+{
+    match fault {
+        ReplayFault::Digest { .. } => line.push_str("replay: digest"),
+        ReplayFault::Entry { number, rule } => push_entry(line, number, rule),
+        ReplayFault::Realises { slot } => push_numbered(line, "replay: slot ", slot as u64),
+        ReplayFault::Cost { recorded, table } => push_costs(line, recorded, table),
+        ReplayFault::NotProved(why) => push_not_replayed(line, why),
+        ReplayFault::Memory => line.push_str("out of memory"),
+    }
+}
+
+#[tactic(auto, unfolding(crate::specs::Status::entry_text))]
+fn push_entry(line: &mut String, number: u32, rule: u8) -> Result<(), AllocError>
+    ensures { OnOk result (string_bytes line.new ≡ string_bytes line.old ++ entry_text number rule) }
+{
+    push_numbered(line, "replay: entry ", number as u64)?;
+    push_numbered(line, " rule ", rule as u64)?;
+    Ok(())
+}
+
+#[tactic(auto, unfolding(crate::specs::Status::costs_text))]
+fn push_costs(line: &mut String, recorded: u64, table: u64) -> Result<(), AllocError>
+    ensures { OnOk result (string_bytes line.new ≡ string_bytes line.old ++ costs_text recorded table) }
+{
+    push_numbered(line, "replay: cost ", recorded)?;
+    push_numbered(line, " table ", table)?;
+    Ok(())
+}
+
+fn push_not_replayed(line: &mut String, why: Why) -> Result<(), AllocError>
+    ensures { OnOk result (string_bytes line.new ≡ string_bytes line.old
+        ++ (codes "replay: " ++ (codes "not proved: " ++ why_text why))) }
+{
+    line.push_str("replay: ")?;
+    push_not_proved(line, why)?;
+    Ok(())
+}
+
 fn push_not_proved(line: &mut String, why: Why) -> Result<(), AllocError>
     ensures { OnOk result (string_bytes line.new ≡ string_bytes line.old ++ (codes "not proved: " ++ why_text why)) }
 {
@@ -146,7 +201,7 @@ fn push_why(line: &mut String, why: Why) -> Result<(), AllocError>
     ensures { OnOk result (string_bytes line.new ≡ string_bytes line.old ++ why_text why) }
 {
     match why {
-        Why::Stuck { line: number } => push_numbered(line, "stuck at ", number),
+        Why::Stuck { line: number } => push_numbered(line, "stuck at ", number as u64),
         Why::Output {
             word,
             source,
@@ -166,8 +221,8 @@ fn push_difference(
 ) -> Result<(), AllocError>
     ensures { OnOk result (string_bytes line.new ≡ string_bytes line.old ++ difference_text word source listing) }
 {
-    push_numbered(line, "output ", word)?;
-    push_numbered(line, " node ", source)?;
+    push_numbered(line, "output ", word as u64)?;
+    push_numbered(line, " node ", source as u64)?;
     line.push_str(" against ")?;
     push_node(line, listing)
 }

@@ -1,4 +1,4 @@
-ghost use Rattle.std.specs.Prelude.{◌≡◌, [], ◌∷◌, IfOk, codes};
+ghost use Rattle.std.specs.Prelude.{◌≡◌, ◌≢◌, [], ◌∷◌, IfOk, codes};
 ghost use Rattle.command_frame.specs.Change.{change_of};
 ghost use Rattle.command_frame.specs.Writes.{OthersStay, Writes, says};
 
@@ -42,5 +42,30 @@ pub fn store_and_say<S: Shelf>(
     match shelf.store(name.as_str(), text) {
         Ok(()) => say_text(word, output, shelf),
         Err(_) => Status::WriteFault(name),
+    }
+}
+
+/// Stores a text under one name, then another text under another name, and then says a word. `output` is the name
+/// of standard output for the status.
+pub fn store_both_and_say<S: Shelf>(
+    first_text: &[u8],
+    first: Text,
+    second_text: &[u8],
+    second: Text,
+    word: &[u8],
+    output: Text,
+    shelf: &mut S,
+) -> Status
+    requires apart { first ≢ second }
+    requires output { output ≡ codes "-" }
+    ensures writes { Writes 0 (first ∷ second ∷ [])
+        (record { texts = first_text.now ∷ second_text.now ∷ []; word = word.now })
+        (change_of S.held S.said S.calls S.faults shelf.old shelf.new) result }
+    ensures others { OthersStay (first ∷ second ∷ [])
+        (change_of S.held S.said S.calls S.faults shelf.old shelf.new) }
+{
+    match shelf.store(first.as_str(), first_text) {
+        Ok(()) => store_and_say(second_text, second, word, output, shelf),
+        Err(_) => Status::WriteFault(first),
     }
 }

@@ -6,9 +6,10 @@ use Rattle.base.specs.Options.{guard}
 use Rattle.clap.specs.Lexer.{long_of, short_of}
 use Rattle.clap.proofs.OnLiterals.{clap_on_literals}
 use Rattle.command_line.specs.Inputs.{inputs_of}
-use Rattle.command_line.specs.Lines.{are_file_names, command_of, rows}
+use Rattle.command_line.specs.Lanes.{are_file_names, lanes_in}
+use Rattle.command_line.specs.Lines.{command_of, rows}
 use Rattle.command_line.specs.Laws.{is_plain}
-use Rattle.command_line.specs.declared.command.Command.TheVariants.{Search, Eval, Emulate, Check, Show}
+use Rattle.command_line.specs.declared.command.Command.TheVariants.{Search, Eval, Emulate, Check, Show, Replay}
 
 -- `clap` takes the word for no option and not for `--`
 pub record IsPlainWord (word : List ℕ) : Type 0 where
@@ -34,6 +35,12 @@ pub search_line : (program asm : List ℕ) → IsPlainWord program → IsPlainWo
     → command_of (codes "search" ∷ program ∷ asm ∷ []) ≡ guard (are_file_names program asm) (Search program asm)
 unfolding clap_on_literals rows
 search_line program asm p a = rw (p.dashes, p.long, p.short, a.dashes, a.long, a.short) refl
+
+pub no_options_line : (program asm journal : List ℕ) → IsPlainWord program → IsPlainWord asm → IsPlainWord journal
+    → command_of (codes "search" ∷ program ∷ asm ∷ journal ∷ []) ≡ None
+unfolding clap_on_literals rows lanes_in
+no_options_line program asm journal p a j =
+    rw (p.dashes, p.long, p.short, a.dashes, a.long, a.short, j.dashes, j.long, j.short) refl
 
 pub eval_line : (program : List ℕ) → IsPlainWord program
     → command_of (codes "eval" ∷ program ∷ []) ≡ Some (Eval program [])
@@ -82,3 +89,9 @@ check_line program asm p a = rw (p.dashes, p.long, p.short, a.dashes, a.long, a.
 pub show_line : (asm : List ℕ) → IsPlainWord asm → command_of (codes "show" ∷ asm ∷ []) ≡ Some (Show asm)
 unfolding clap_on_literals rows
 show_line asm a = rw (a.dashes, a.long, a.short) refl
+
+pub replay_line : (program journal asm : List ℕ) → IsPlainWord program → IsPlainWord journal → IsPlainWord asm
+    → command_of (codes "replay" ∷ program ∷ journal ∷ asm ∷ []) ≡ Some (Replay program journal asm)
+unfolding clap_on_literals rows
+replay_line program journal asm p j a =
+    rw (p.dashes, p.long, p.short, j.dashes, j.long, j.short, a.dashes, a.long, a.short) refl

@@ -2,8 +2,9 @@
 use Rattle.std.specs.Prelude.{◌≡◌, ℕ, Bool, true, not, ◌==◌, List, [], ◌∷◌, codes, Some, None, option_map}
 use Rattle.base.specs.Options.{guard}
 use Rattle.command_line.specs.Inputs.{inputs_of}
-use Rattle.command_line.specs.Lines.{are_file_names, command_of}
-use Rattle.command_line.specs.declared.command.Command.TheVariants.{Search, Eval, Emulate, Check, Show}
+use Rattle.command_line.specs.Lanes.{are_file_names, lanes_of, lanes_command}
+use Rattle.command_line.specs.Lines.{command_of}
+use Rattle.command_line.specs.declared.command.Command.TheVariants.{Search, Eval, Emulate, Check, Show, Replay}
 
 -- the word is taken for no option: it does not begin with `-`, or is `-` alone
 abbrev pub is_plain : List ℕ → Bool
@@ -15,6 +16,19 @@ is_plain (c ∷ d ∷ cs) = not (c == 45)
 abbrev pub Searches : Type 0
 Searches = (program asm : List ℕ) → is_plain program ≡ true → is_plain asm ≡ true
     → command_of (codes "search" ∷ program ∷ asm ∷ []) ≡ guard (are_file_names program asm) (Search program asm)
+
+-- `search PROGRAM ASM JOURNAL --seeds LIST --workers N --turns N`
+abbrev pub SearchesLanes : Type 0
+SearchesLanes = (program asm journal seeds workers turns : List ℕ) → is_plain program ≡ true → is_plain asm ≡ true
+    → is_plain journal ≡ true → is_plain seeds ≡ true → is_plain workers ≡ true → is_plain turns ≡ true
+    → command_of (codes "search" ∷ program ∷ asm ∷ journal ∷ codes "--seeds" ∷ seeds ∷ codes "--workers" ∷ workers
+    ∷ codes "--turns" ∷ turns ∷ [])
+    ≡ lanes_command program asm journal (lanes_of seeds workers turns)
+
+-- `search PROGRAM ASM JOURNAL`, which is no command
+abbrev pub RefusesNoOptions : Type 0
+RefusesNoOptions = (program asm journal : List ℕ) → is_plain program ≡ true → is_plain asm ≡ true
+    → is_plain journal ≡ true → command_of (codes "search" ∷ program ∷ asm ∷ journal ∷ []) ≡ None
 
 -- `eval PROGRAM`
 abbrev pub Evaluates : Type 0
@@ -62,3 +76,8 @@ Checks = (program asm : List ℕ) → is_plain program ≡ true → is_plain asm
 -- `show ASM`
 abbrev pub Shows : Type 0
 Shows = (asm : List ℕ) → is_plain asm ≡ true → command_of (codes "show" ∷ asm ∷ []) ≡ Some (Show asm)
+
+-- `replay PROGRAM JOURNAL ASM`
+abbrev pub Replays : Type 0
+Replays = (program journal asm : List ℕ) → is_plain program ≡ true → is_plain journal ≡ true → is_plain asm ≡ true
+    → command_of (codes "replay" ∷ program ∷ journal ∷ asm ∷ []) ≡ Some (Replay program journal asm)

@@ -1,11 +1,14 @@
 //! The commands, and which one the words of a command line are.
-ghost use Rattle.std.specs.Prelude.{◌≡◌, IfOk, map, string_bytes};
+ghost use Rattle.std.specs.Prelude.{◌≡◌, IfOk, IfSome, None, Some, map, string_bytes};
 ghost use Rattle.clap.specs.Walk.{rows_of};
 ghost use Rattle.clap.specs.Matches.{found_of};
 ghost use Rattle.command_line.specs.Lines as spec;
+ghost use Rattle.command_line.specs.Lanes as lanes;
+ghost use Rattle.command_line.specs.Lanes.{AreApart, IsWithin};
 ghost use Rattle.command_line.specs.declared.table.CommandName.TheVariants as names;
 
 use crate::inputs::inputs_or_none;
+use crate::lanes::lanes_in;
 use crate::parsing::{matches_of, value_of};
 use crate::table::{CommandName, command_named, syntax_of};
 use base::{Items, Text};
@@ -22,6 +25,16 @@ pub enum Command {
     Search {
         program: Text,
         asm: Text,
+    },
+    /// `search PROGRAM ASM JOURNAL --seeds LIST --workers N --turns N`: three names of which no two are the same, and
+    /// neither ASM nor JOURNAL is `-`; the seed of each lane, how many workers, and how many turns each lane has.
+    SearchLanes {
+        program: Text,
+        asm: Text,
+        journal: Text,
+        seeds: Words,
+        workers: u8,
+        turns: u32,
     },
     /// `eval PROGRAM [--in LIST]`: the program, and the input words, none where there is no list.
     Eval {
@@ -43,6 +56,12 @@ pub enum Command {
     Show {
         asm: Text,
     },
+    /// `replay PROGRAM JOURNAL ASM`: the program, the journal of a search, and the assembly that it wrote.
+    Replay {
+        program: Text,
+        journal: Text,
+        asm: Text,
+    },
 }
 
 /// The command of a command line without the program's own name, and none exactly where the words are no command.
@@ -52,8 +71,16 @@ pub enum Command {
 /// `--in=LIST`, once each; after `--` every word is a name; a word that begins with `-` and is longer is an option;
 /// `--help` is refused. A LIST has words with commas between them: decimal digits, or `0x` and hexadecimal digits,
 /// each below 2^64.
+///
+/// `search` takes the word JOURNAL and its three options together, or none of them. The LIST of its seeds has 1 to 64
+/// numbers with commas between them; there are 1 to 64 workers, and at most 65,536 turns; seeds times turns is at most
+/// 1,048,576. Each of these numbers has 1 to 20 decimal digits and is below 2^64.
 pub fn command_of(alloc: Global, words: &[String]) -> Result<Option<Command>, AllocError>
-    ensures { IfOk result (λ found. found ≡ spec.command_of (map string_bytes words.now)) }
+    ensures command { IfOk result (λ found. found ≡ spec.command_of (map string_bytes words.now)) }
+
+    // What holds of each search by lanes.
+    ensures names { IfOk result (λ found. IfSome found AreApart) }
+    ensures limits { IfOk result (λ found. IfSome found IsWithin) }
 {
     let Some(first) = words.first() else {
         return Ok(None);
@@ -72,7 +99,9 @@ fn made_of(
     name: CommandName,
     matches: &ArgMatches<'_>,
 ) -> Result<Option<Command>, AllocError>
-    ensures { IfOk result (λ made. made ≡ spec.made_of name (rows_of (found_of matches.now))) }
+    ensures command { IfOk result (λ made. made ≡ spec.made_of name (rows_of (found_of matches.now))) }
+    ensures names { IfOk result (λ made. IfSome made AreApart) }
+    ensures limits { IfOk result (λ made. IfSome made IsWithin) }
 {
     match name {
         CommandName::Search => search_of(alloc, matches),
@@ -80,11 +109,14 @@ fn made_of(
         CommandName::Emulate => emulate_of(alloc, matches),
         CommandName::Check => check_of(alloc, matches),
         CommandName::Show => show_of(alloc, matches),
+        CommandName::Replay => replay_of(alloc, matches),
     }
 }
 
 fn search_of(alloc: Global, matches: &ArgMatches<'_>) -> Result<Option<Command>, AllocError>
-    ensures { IfOk result (λ made. made ≡ spec.made_of names.Search (rows_of (found_of matches.now))) }
+    ensures command { IfOk result (λ made. made ≡ spec.made_of names.Search (rows_of (found_of matches.now))) }
+    ensures names { IfOk result (λ made. IfSome made AreApart) }
+    ensures limits { IfOk result (λ made. IfSome made IsWithin) }
 {
     let Some(program) = value_of(matches, "PROGRAM") else {
         return Ok(None);
@@ -92,12 +124,82 @@ fn search_of(alloc: Global, matches: &ArgMatches<'_>) -> Result<Option<Command>,
     let Some(asm) = value_of(matches, "ASM") else {
         return Ok(None);
     };
-    if program == asm || asm == "-" {
+    match value_of(matches, "JOURNAL") {
+        Some(journal) => search_lanes_of(alloc, program, asm, journal, matches),
+        None => search_opening_of(alloc, program, asm, matches),
+    }
+}
+
+// The search where the word JOURNAL is not there.
+fn search_opening_of(
+    alloc: Global,
+    program: &str,
+    asm: &str,
+    matches: &ArgMatches<'_>,
+) -> Result<Option<Command>, AllocError>
+    ensures command { IfOk result (λ made. made ≡ spec.search_made program.now asm.now None
+        (rows_of (found_of matches.now))) }
+    ensures names { IfOk result (λ made. IfSome made AreApart) }
+    ensures limits { IfOk result (λ made. IfSome made IsWithin) }
+{
+    if !has_no_options(matches) || !are_file_names(program, asm) {
         return Ok(None);
     }
     let program = Text::from_str(alloc, program)?;
     let asm = Text::from_str(alloc, asm)?;
     Ok(Some(Command::Search { program, asm }))
+}
+
+fn has_no_options(matches: &ArgMatches<'_>) -> bool
+    ensures { result ≡ spec.has_no_options (rows_of (found_of matches.now)) }
+{
+    value_of(matches, "seeds").is_none()
+        && value_of(matches, "workers").is_none()
+        && value_of(matches, "turns").is_none()
+}
+
+// The search where the word JOURNAL is there.
+fn search_lanes_of(
+    alloc: Global,
+    program: &str,
+    asm: &str,
+    journal: &str,
+    matches: &ArgMatches<'_>,
+) -> Result<Option<Command>, AllocError>
+    ensures command { IfOk result (λ made. made ≡ spec.search_made program.now asm.now (Some journal.now)
+        (rows_of (found_of matches.now))) }
+    ensures names { IfOk result (λ made. IfSome made AreApart) }
+    ensures limits { IfOk result (λ made. IfSome made IsWithin) }
+{
+    let Some(lanes) = lanes_in(alloc, matches)? else {
+        return Ok(None);
+    };
+    if !are_lane_names(program, asm, journal) {
+        return Ok(None);
+    }
+    let program = Text::from_str(alloc, program)?;
+    let asm = Text::from_str(alloc, asm)?;
+    let journal = Text::from_str(alloc, journal)?;
+    Ok(Some(Command::SearchLanes {
+        program,
+        asm,
+        journal,
+        seeds: lanes.seeds,
+        workers: lanes.workers,
+        turns: lanes.turns,
+    }))
+}
+
+fn are_file_names(read: &str, written: &str) -> bool
+    ensures { result ≡ lanes.are_file_names read.now written.now }
+{
+    read != written && written != "-"
+}
+
+fn are_lane_names(program: &str, asm: &str, journal: &str) -> bool
+    ensures { result ≡ lanes.are_lane_names program.now asm.now journal.now }
+{
+    are_file_names(program, asm) && are_file_names(program, journal) && asm != journal
 }
 
 fn eval_of(alloc: Global, matches: &ArgMatches<'_>) -> Result<Option<Command>, AllocError>
@@ -156,4 +258,26 @@ fn show_of(alloc: Global, matches: &ArgMatches<'_>) -> Result<Option<Command>, A
     };
     let asm = Text::from_str(alloc, asm)?;
     Ok(Some(Command::Show { asm }))
+}
+
+fn replay_of(alloc: Global, matches: &ArgMatches<'_>) -> Result<Option<Command>, AllocError>
+    ensures { IfOk result (λ made. made ≡ spec.made_of names.Replay (rows_of (found_of matches.now))) }
+{
+    let Some(program) = value_of(matches, "PROGRAM") else {
+        return Ok(None);
+    };
+    let Some(journal) = value_of(matches, "JOURNAL") else {
+        return Ok(None);
+    };
+    let Some(asm) = value_of(matches, "ASM") else {
+        return Ok(None);
+    };
+    let program = Text::from_str(alloc, program)?;
+    let journal = Text::from_str(alloc, journal)?;
+    let asm = Text::from_str(alloc, asm)?;
+    Ok(Some(Command::Replay {
+        program,
+        journal,
+        asm,
+    }))
 }

@@ -26,7 +26,8 @@ fn inputs_of(alloc: Global, list: &str) -> Result<Option<Words>, AllocError>
     words_of(alloc, pieces.as_slice())
 }
 
-fn pieces_of<'a>(alloc: Global, list: &'a str) -> Result<Vec<&'a str>, AllocError>
+/// The pieces of a list between its commas.
+pub fn pieces_of<'a>(alloc: Global, list: &'a str) -> Result<Vec<&'a str>, AllocError>
     ensures { IfOk result (λ v. map (λ piece. piece.now) v.items ≡ slice_split (λ b. b == 44) list.entry.now) }
 {
     list.split(',').collect(alloc)

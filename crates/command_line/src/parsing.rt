@@ -1,5 +1,5 @@
 //! The words of a command, assigned by `clap`.
-ghost use Rattle.std.specs.Prelude.{◌≡◌, IfOk, true, map, fold, option_map, string_bytes};
+ghost use Rattle.std.specs.Prelude.{◌≡◌, IfOk, true, map, option_map, string_bytes};
 ghost use Rattle.clap.specs.Walk.{first_of, rows_of};
 ghost use Rattle.clap.specs.Matches.{found_of};
 ghost use Rattle.clap.specs.Simple.{app_of, is_simple};
@@ -7,7 +7,7 @@ ghost use Rattle.clap.specs.Faults.{is_simple_and_free};
 ghost use Rattle.command_line.specs.Table as spec;
 ghost use Rattle.command_line.specs.Lines.{rows};
 
-use crate::table::Syntax;
+use crate::table::{ArgKind, Syntax};
 use clap::error::ErrorKind;
 use clap::{Arg, ArgMatches, Command};
 use std::alloc::{AllocError, Global};
@@ -44,56 +44,39 @@ pub fn value_of<'a>(matches: &ArgMatches<'a>, name: &str) -> Option<&'a str>
 fn clap_command<'a>(alloc: Global, line: Syntax) -> Result<Command<'a>, AllocError>
     ensures { IfOk result (λ command. app_of command ≡ spec.app_of (spec.syntax_view line)) }
 {
-    let command = with_words(alloc, Command::new(alloc, line.name), line.words)?;
-    with_options(alloc, command, line.options)
+    let command = Command::new(alloc, line.name);
+    let command = with_args(alloc, command, line.words, ArgKind::Word)?;
+    let command = with_args(alloc, command, line.optional, ArgKind::OptionalWord)?;
+    with_args(alloc, command, line.options, ArgKind::Named)
 }
 
-fn with_words<'a>(
+fn with_args<'a>(
     alloc: Global,
     command: Command<'a>,
     names: &[&'a str],
+    kind: ArgKind,
 ) -> Result<Command<'a>, AllocError>
-    ensures { IfOk result (λ r. app_of r ≡ fold spec.with_word (app_of command.entry)
+    ensures { IfOk result (λ r. app_of r ≡ spec.with_args kind (app_of command.entry)
         (map (λ name. name.now) names.now)) }
 {
     let mut command = command;
     for name in names {
-        command = with_word(alloc, command, name)?;
+        command = with_arg(alloc, command, name, kind)?;
     }
     Ok(command)
 }
 
-fn with_options<'a>(
+fn with_arg<'a>(
     alloc: Global,
     command: Command<'a>,
-    names: &[&'a str],
+    name: &'a str,
+    kind: ArgKind,
 ) -> Result<Command<'a>, AllocError>
-    ensures { IfOk result (λ r. app_of r ≡ fold spec.with_option (app_of command.entry)
-        (map (λ name. name.now) names.now)) }
+    ensures { IfOk result (λ r. app_of r ≡ spec.with_arg kind (app_of command.entry) name.entry.now) }
 {
-    let mut command = command;
-    for name in names {
-        command = with_option(alloc, command, name)?;
+    match kind {
+        ArgKind::Word => command.arg(Arg::new(alloc, name).required(true)),
+        ArgKind::OptionalWord => command.arg(Arg::new(alloc, name)),
+        ArgKind::Named => command.arg(Arg::new(alloc, name).long(name)),
     }
-    Ok(command)
-}
-
-fn with_word<'a>(
-    alloc: Global,
-    command: Command<'a>,
-    name: &'a str,
-) -> Result<Command<'a>, AllocError>
-    ensures { IfOk result (λ r. app_of r ≡ spec.with_word (app_of command.entry) name.entry.now) }
-{
-    command.arg(Arg::new(alloc, name).required(true))
-}
-
-fn with_option<'a>(
-    alloc: Global,
-    command: Command<'a>,
-    name: &'a str,
-) -> Result<Command<'a>, AllocError>
-    ensures { IfOk result (λ r. app_of r ≡ spec.with_option (app_of command.entry) name.entry.now) }
-{
-    command.arg(Arg::new(alloc, name).long(name))
 }

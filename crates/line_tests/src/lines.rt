@@ -1,10 +1,12 @@
 //! Command lines, and the commands that they are.
+use base::Text;
 use command_line::{Command, Words, command_of};
 use std::alloc::{AllocError, Global};
 use std::test::Fail;
 
-// A row a line: words with a blank between each two, and after `=>` the command with its words, the input words in
-// decimal digits, or `none`.
+// A row a line: words with a blank between each two, and after `=>` the command with its words and its numbers in
+// decimal digits, or `none`. A search by lanes is `lanes` with its names, workers, turns and seeds. `SIXTY-FOUR` stands
+// for 64 seeds, which are 7.
 const ROWS: &str = "\
 search p.json p.s => search p.json p.s
 search p.json => none
@@ -28,6 +30,72 @@ search p.json p.s --help => none
 search p.json p.s -h => none
 search --help => none
 search p.json p.s --version => none
+search a.json a.s a.j --seeds 1 --workers 2 --turns 3 => lanes a.json a.s a.j 2 3 1
+search a.json a.s a.j --turns 3 --workers 2 --seeds 1,2 => lanes a.json a.s a.j 2 3 1 2
+search --seeds 1,2 --workers 2 --turns 3 a.json a.s a.j => lanes a.json a.s a.j 2 3 1 2
+search a.json --seeds=1,2 a.s --workers=2 a.j --turns=3 => lanes a.json a.s a.j 2 3 1 2
+search --seeds 1 --workers 2 --turns 3 -- -p -s -j => lanes -p -s -j 2 3 1
+search - a.s a.j --seeds 1 --workers 2 --turns 3 => lanes - a.s a.j 2 3 1
+search a.json - a.j --seeds 1 --workers 2 --turns 3 => none
+search a.json a.s - --seeds 1 --workers 2 --turns 3 => none
+search a.s a.s a.j --seeds 1 --workers 2 --turns 3 => none
+search a.j a.s a.j --seeds 1 --workers 2 --turns 3 => none
+search a.json a.s a.s --seeds 1 --workers 2 --turns 3 => none
+search a.json a.s a.j b.j --seeds 1 --workers 2 --turns 3 => none
+search a.json a.s a.j => none
+search a.json a.s a.j --seeds 1 => none
+search a.json a.s a.j --workers 2 --turns 3 => none
+search a.json a.s a.j --seeds 1 --turns 3 => none
+search a.json a.s a.j --seeds 1 --workers 2 => none
+search a.json a.s --seeds 1 --workers 2 --turns 3 => none
+search a.json a.s --seeds 1 => none
+search a.json a.s --workers 2 => none
+search a.json a.s --turns 3 => none
+search a.json a.s a.j --seeds 1 --workers 2 --turns 3 --turns 3 => none
+search a.json a.s a.j --seeds 1 --seeds 1 --workers 2 --turns 3 => none
+search a.json a.s a.j --seeds 1 --workers 2 --turns 3 --in 1 => none
+search a.json a.s a.j --seeds 1 --workers 1 --turns 3 => lanes a.json a.s a.j 1 3 1
+search a.json a.s a.j --seeds 1 --workers 0 --turns 3 => none
+search a.json a.s a.j --seeds 1 --workers 64 --turns 3 => lanes a.json a.s a.j 64 3 1
+search a.json a.s a.j --seeds 1 --workers 65 --turns 3 => none
+search a.json a.s a.j --seeds 1 --workers 320 --turns 3 => none
+search a.json a.s a.j --seeds 1 --workers 2 --turns 0 => lanes a.json a.s a.j 2 0 1
+search a.json a.s a.j --seeds 1 --workers 2 --turns 65536 => lanes a.json a.s a.j 2 65536 1
+search a.json a.s a.j --seeds 1 --workers 2 --turns 65537 => none
+search a.json a.s a.j --seeds SIXTY-FOUR --workers 2 --turns 1 => lanes a.json a.s a.j 2 1 SIXTY-FOUR
+search a.json a.s a.j --seeds SIXTY-FOUR,7 --workers 2 --turns 1 => none
+search a.json a.s a.j --seeds SIXTY-FOUR --workers 2 --turns 16384 => lanes a.json a.s a.j 2 16384 SIXTY-FOUR
+search a.json a.s a.j --seeds SIXTY-FOUR --workers 2 --turns 16385 => none
+search a.json a.s a.j --seeds 007,0 --workers 02 --turns 003 => lanes a.json a.s a.j 2 3 7 0
+search a a.s a.j --seeds 18446744073709551615 --workers 2 --turns 3 => lanes a a.s a.j 2 3 18446744073709551615
+search a.json a.s a.j --seeds 18446744073709551616 --workers 2 --turns 3 => none
+search a.json a.s a.j --seeds 00000000000000000001 --workers 2 --turns 3 => lanes a.json a.s a.j 2 3 1
+search a.json a.s a.j --seeds 000000000000000000001 --workers 2 --turns 3 => none
+search a.json a.s a.j --seeds 1 --workers 00000000000000000002 --turns 3 => lanes a.json a.s a.j 2 3 1
+search a.json a.s a.j --seeds 1 --workers 000000000000000000002 --turns 3 => none
+search a.json a.s a.j --seeds 1 --workers 2 --turns 000000000000000000003 => none
+search a.json a.s a.j --seeds 0x1 --workers 2 --turns 3 => none
+search a.json a.s a.j --seeds +1 --workers 2 --turns 3 => none
+search a.json a.s a.j --seeds 1 --workers +2 --turns 3 => none
+search a.json a.s a.j --seeds -1 --workers 2 --turns 3 => none
+search a.json a.s a.j --seeds=-1 --workers 2 --turns 3 => none
+search a.json a.s a.j --seeds 1,,2 --workers 2 --turns 3 => none
+search a.json a.s a.j --seeds 1, --workers 2 --turns 3 => none
+search a.json a.s a.j --seeds ,1 --workers 2 --turns 3 => none
+search a.json a.s a.j --seeds , --workers 2 --turns 3 => none
+search a.json a.s a.j --seeds= --workers 2 --turns 3 => none
+search a.json a.s a.j --seeds  --workers 2 --turns 3 => none
+search a.json a.s a.j --seeds 1 2 --workers 2 --turns 3 => none
+search a.json a.s a.j --seeds 1 --workers= --turns 3 => none
+find a.json a.s a.j --seeds 1 --workers 2 --turns 3 => none
+replay a.json a.j a.s => replay a.json a.j a.s
+replay a a a => replay a a a
+replay - - - => replay - - -
+replay -- -p -j -s => replay -p -j -s
+replay a.json a.j => none
+replay a.json a.j a.s b.s => none
+replay a.json a.j a.s --seeds 1 => none
+replays a.json a.j a.s => none
 eval p.json => eval p.json
 eval - => eval -
 eval => none
@@ -104,6 +172,18 @@ fn text_of(alloc: Global, command: &Command) -> Result<String, AllocError> {
             program.as_str(),
             asm.as_str()
         ),
+        Command::SearchLanes {
+            program,
+            asm,
+            journal,
+            seeds,
+            workers,
+            turns,
+        } => {
+            let names = three(alloc, program, asm, journal)?;
+            let text = format!(in alloc; "lanes {names} {workers} {turns}")?;
+            with_words(text, seeds)
+        }
         Command::Eval { program, inputs } => {
             let text = format!(in alloc; "eval {}", program.as_str())?;
             with_words(text, inputs)
@@ -122,7 +202,31 @@ fn text_of(alloc: Global, command: &Command) -> Result<String, AllocError> {
             asm.as_str()
         ),
         Command::Show { asm } => format!(in alloc; "show {}", asm.as_str()),
+        Command::Replay {
+            program,
+            journal,
+            asm,
+        } => {
+            let names = three(alloc, program, journal, asm)?;
+            format!(in alloc; "replay {names}")
+        }
     }
+}
+
+fn three(alloc: Global, first: &Text, second: &Text, third: &Text) -> Result<String, AllocError> {
+    format!(in alloc; "{} {} {}", first.as_str(), second.as_str(), third.as_str())
+}
+
+// A row with all seeds of `SIXTY-FOUR`, each of which has what `between` is before the next one.
+fn with_seeds(alloc: Global, text: &str, between: &str) -> Result<String, AllocError> {
+    let mut seeds = String::new(alloc);
+    for k in 0..64 {
+        if k > 0 {
+            seeds.push_str(between)?;
+        }
+        seeds.push_str("7")?;
+    }
+    text.replace(alloc, "SIXTY-FOUR", seeds.as_str())
 }
 
 fn with_words(text: String, words: &Words) -> Result<String, AllocError> {
@@ -145,10 +249,12 @@ fn is_as_written(alloc: Global, row: &str) -> Result<bool, AllocError> {
     let Some((line, expected)) = row.split_once(" => ") else {
         return Ok(false);
     };
-    let words = words_of(alloc, line)?;
+    let line = with_seeds(alloc, line, ",")?;
+    let expected = with_seeds(alloc, expected, " ")?;
+    let words = words_of(alloc, line.as_str())?;
     match command_of(alloc, words.as_slice())? {
-        Some(command) => Ok(text_of(alloc, &command)?.as_str() == expected),
-        None => Ok(expected == "none"),
+        Some(command) => Ok(text_of(alloc, &command)?.as_str() == expected.as_str()),
+        None => Ok(expected.as_str() == "none"),
     }
 }
 

@@ -1,9 +1,11 @@
 //! The program: one command over the files of the process, its line on standard error, its exit status.
 #![tactic(auto)]
 
-use io_ports::{HostShelf, Shelf};
-use search_top::Status;
-use std::alloc::Global;
+mod progress;
+
+use io_ports::HostShelf;
+use progress::{Progress, is_asked};
+use search_top::{Status, command, search};
 use std::io::ErrorKind;
 use std::process::ExitCode;
 use std::{env, io};
@@ -23,16 +25,16 @@ fn main(rt: HostRuntime) -> ExitCode {
         }
     };
     let mut shelf = HostShelf::new(&rt);
-    let status = run(rt.alloc(), words.as_slice(), &mut shelf);
+    let status = match words.first() {
+        Some(word) if word.as_str() == "search" => {
+            let progress = Progress::new(&rt, is_asked(&rt));
+            let status = search(&rt, rt.alloc(), words.as_slice(), &mut shelf, &progress);
+            progress.clear();
+            status
+        }
+        _ => command(rt.alloc(), words.as_slice(), &mut shelf),
+    };
     end(&rt, &status)
-}
-
-/// Runs `search`, or another command.
-fn run<S: Shelf>(alloc: Global, words: &[String], shelf: &mut S) -> Status {
-    match words.first() {
-        Some(word) if word.as_str() == "search" => search_top::search(alloc, words, shelf),
-        _ => search_top::command(alloc, words, shelf),
-    }
 }
 
 /// The words of the command line without the program's own name.

@@ -78,4 +78,7 @@ IsOfSearch (statuses.Not why) = ⊥
 IsOfSearch (statuses.Stuck line) = ⊥
 IsOfSearch (statuses.Inputs given wanted) = ⊥
 IsOfSearch (statuses.OutOfBounds word) = ⊥
+IsOfSearch (statuses.Journal line) = ⊥
+IsOfSearch (statuses.Version found) = ⊥
+IsOfSearch (statuses.Replay fault) = ⊥
 IsOfSearch status = Unit {0}

@@ -5,6 +5,7 @@ ghost use Rattle.search_top.specs.Commands.{EndsAs, other_command};
 use crate::check_command::check_file;
 use crate::emulate_command::emulate_file;
 use crate::eval_command::eval_file;
+use crate::replay_command::{ReplayFiles, replay_files};
 use crate::show_command::show_file;
 use command_frame::Status;
 use command_line::{Command, command_of};
@@ -20,12 +21,16 @@ use std::alloc::Global;
 /// - `check PROGRAM ASM` reads the files PROGRAM and ASM, and says `proved` where the listing is proved for the
 ///   program. It is then correct for it.
 /// - `show ASM` reads the file ASM, and says the canonical text of its listing.
+/// - `replay PROGRAM JOURNAL ASM` reads the three files, draws each mutation of the journal again, and says its counts
+///   where the journal is a legal and whole one of the program, and the listing is a proved one of the plan of the
+///   journal's last number of least cost, and has this cost.
 ///
 /// The refusals come in the order in which the files are read: [`Status::Usage`]; for PROGRAM
-/// [`Status::ReadFault`], [`Status::TooLong`], [`Status::NotJson`] and [`Status::Program`]; for ASM
+/// [`Status::ReadFault`], [`Status::TooLong`], [`Status::NotJson`] and [`Status::Program`]; for JOURNAL
+/// [`Status::ReadFault`], [`Status::TooLong`], [`Status::Version`] and [`Status::Journal`]; for ASM
 /// [`Status::ReadFault`], [`Status::TooLong`], [`Status::Text`] and [`Status::Listing`]; [`Status::Inputs`] and
-/// [`Status::OutOfBounds`]; [`Status::Stuck`], and [`Status::Not`] of `check`; and last [`Status::WriteFault`] of
-/// standard output. [`Status::OutOfMemory`] comes only before that.
+/// [`Status::OutOfBounds`]; [`Status::Stuck`], [`Status::Not`] of `check`, and [`Status::Replay`]; and last
+/// [`Status::WriteFault`] of standard output. [`Status::OutOfMemory`] comes only before that.
 pub fn command<S: Shelf>(alloc: Global, words: &[String], shelf: &mut S) -> Status
     // `Usage` comes exactly where the words are none of these commands, or there is no memory to read them apart.
     // Nothing is then done.
@@ -54,7 +59,24 @@ pub fn command<S: Shelf>(alloc: Global, words: &[String], shelf: &mut S) -> Stat
         ) => emulate_file(alloc, program, asm, inputs.items(), shelf),
         Ok(Some(Command::Check { program, asm })) => check_file(alloc, program, asm, shelf),
         Ok(Some(Command::Show { asm })) => show_file(alloc, asm, shelf),
-        Ok(Some(Command::Search { .. })) | Ok(None) => Status::Usage,
+        Ok(
+            Some(
+                Command::Replay {
+                    program,
+                    journal,
+                    asm,
+                },
+            ),
+        ) => {
+            let names = ReplayFiles {
+                program,
+                journal,
+                asm,
+            };
+            replay_files(alloc, names, shelf)
+        }
+        Ok(Some(Command::Search { .. })) | Ok(Some(Command::SearchLanes { .. })) | Ok(None) =>
+            Status::Usage,
         Err(_) => Status::OutOfMemory,
     }
 }

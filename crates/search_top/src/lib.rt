@@ -13,11 +13,16 @@ mod commands;
 mod emulate_command;
 mod emulation;
 mod eval_command;
+mod lanes;
+mod lanes_command;
 mod opening;
 mod outputs;
+mod publishing;
+mod replay_command;
 mod search_command;
 mod show_command;
 
 pub use command_frame::{Status, exit_of, line_of};
 pub use commands::command;
 pub use search_command::search;
+pub use search_workers::{FreeGate, Gate};

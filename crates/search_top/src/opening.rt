@@ -2,6 +2,7 @@ ghost use Rattle.std.specs.Prelude.{◌≡◌, [], ◌∷◌, ◌++◌, IfOk, co
 ghost use Rattle.asm_text.specs.Assembly.{text_of};
 ghost use Rattle.cost_table.specs.Costs.{cost_of};
 ghost use Rattle.command_frame.specs.Files as files;
+ghost use Rattle.op_order.specs.Plans as plans;
 ghost use Rattle.equiv_validator.specs.Kept.{HasChecks};
 ghost use Rattle.search_top.specs.Search.{IsFit, SearchMeans, opening_listing};
 
@@ -27,21 +28,29 @@ pub fn opening_of(alloc: Global, program: Program) -> Result<Opening, AllocError
     ensures { IfOk result (λ o. SearchMeans (files.Program program ∷ [])
         (record { texts = o.text.items ∷ []; word = string_bytes o.line })) }
 {
-    let checked = checked_opening(alloc, program)?;
+    let prepared = prepare(alloc, program)?;
+    let checked = checked_opening(alloc, &prepared)?;
     let opening = published(alloc, &checked)?;
     Ok(opening)
 }
 
-/// The plain listing of the program's opening plan, checked and kept with the plan.
-fn checked_opening(alloc: Global, program: Program) -> Result<Checked, AllocError>
-    ensures program { IfOk result (λ c. c.program ≡ program) }
-    ensures listing { IfOk result (λ c. c.listing ≡ opening_listing program) }
-    ensures checks { IfOk result HasChecks }
+/// The program, prepared for checks. The one error is want of memory.
+pub fn prepare(alloc: Global, program: Program) -> Result<Prepared, AllocError>
+    ensures { IfOk result (λ prepared. prepared ≡ program) }
 {
     let program = Arc::new(alloc, program)?;
-    let prepared = Prepared::new(alloc, program)?;
+    Prepared::new(alloc, program)
+}
+
+/// The plain listing of the program's opening plan, checked and kept with the plan. The one error is want of memory.
+pub fn checked_opening(alloc: Global, prepared: &Prepared) -> Result<Checked, AllocError>
+    ensures program { IfOk result (λ c. c.program ≡ prepared.now) }
+    ensures plan { IfOk result (λ c. c.plan.slots ≡ plans.opening_of prepared.now) }
+    ensures listing { IfOk result (λ c. c.listing ≡ opening_listing prepared.now) }
+    ensures checks { IfOk result HasChecks }
+{
     let plan = Plan::opening(alloc, prepared.program())?;
-    checked_plain(alloc, &prepared, plan)
+    checked_plain(alloc, prepared, plan)
 }
 
 /// What is published of a listing that was checked: its text, and the line that tells its cost.

@@ -1,7 +1,14 @@
 //! Calls of the commands with a command line, over a shelf in memory.
 use io_ports::{Fault, MemoryShelf, Shelf};
-use search_top::{Status, command, exit_of, line_of, search};
+use search_top::{FreeGate, Status, command, exit_of, line_of, search};
 use std::alloc::{AllocError, Global};
+use std::sync::Wait;
+use std::thread::Threads;
+
+/// What a search needs of the process, and memory.
+pub trait Host: AllocGlobal + Threads + Wait + Sync {}
+
+impl<R: AllocGlobal + Threads + Wait + Sync> Host for R {}
 
 /// What the files `p.json` and `p.s` have. A file `other` stands beside them.
 #[derive(Clone, Copy)]
@@ -91,16 +98,17 @@ fn fails_next(alloc: Global, shelf: &mut MemoryShelf) -> bool {
 /// Whether a line, by `search` if it begins so and else by `command`, leaves this, where these calls of the shelf
 /// fail. The last one of them has to be the first behind those that are made.
 pub fn leaves(
-    alloc: Global,
+    rt: &impl Host,
     files: Files<'_>,
     line: &str,
     fails: &[u64],
     left: Left<'_>,
 ) -> Result<bool, AllocError> {
+    let alloc = rt.alloc();
     let mut shelf = shelf_of(alloc, files, fails)?;
     let words = words_of(alloc, line)?;
     let status = if line.starts_with("search") {
-        search(alloc, words.as_slice(), &mut shelf)
+        search(rt, alloc, words.as_slice(), &mut shelf, &FreeGate)
     } else {
         command(alloc, words.as_slice(), &mut shelf)
     };
@@ -108,13 +116,14 @@ pub fn leaves(
 }
 
 /// Whether the other one of the two calls refuses the line, and leaves everything with no call of the shelf.
-pub fn is_idle(alloc: Global, files: Files<'_>, line: &str) -> Result<bool, AllocError> {
+pub fn is_idle(rt: &impl Host, files: Files<'_>, line: &str) -> Result<bool, AllocError> {
+    let alloc = rt.alloc();
     let mut shelf = shelf_of(alloc, files, &[0])?;
     let words = words_of(alloc, line)?;
     let status = if line.starts_with("search") {
         command(alloc, words.as_slice(), &mut shelf)
     } else {
-        search(alloc, words.as_slice(), &mut shelf)
+        search(rt, alloc, words.as_slice(), &mut shelf, &FreeGate)
     };
     let left = refused(files, "2 usage");
     Ok(is_left(alloc, &shelf, files.program, &status, left)? && fails_next(alloc, &mut shelf))
@@ -122,11 +131,16 @@ pub fn is_idle(alloc: Global, files: Files<'_>, line: &str) -> Result<bool, Allo
 
 /// Whether a row of a line, `=>`, and the exit status with the line on standard error is a refusal behind so many
 /// calls.
-pub fn refuses(alloc: Global, files: Files<'_>, row: &str, calls: u64) -> Result<bool, AllocError> {
+pub fn refuses(
+    rt: &impl Host,
+    files: Files<'_>,
+    row: &str,
+    calls: u64,
+) -> Result<bool, AllocError> {
     let Some((line, end)) = row.split_once(" => ") else {
         return Ok(false);
     };
-    leaves(alloc, files, line, &[calls], refused(files, end))
+    leaves(rt, files, line, &[calls], refused(files, end))
 }
 
 /// What was said of a program by `search` and then by `check`, and how many instructions were published.
@@ -148,10 +162,11 @@ fn instructions_in(text: &[u8]) -> usize {
 }
 
 /// Searches a program, and checks what was published, on one shelf.
-pub fn published(alloc: Global, program: &str) -> Result<Outcome, AllocError> {
+pub fn published(rt: &impl Host, program: &str) -> Result<Outcome, AllocError> {
+    let alloc = rt.alloc();
     let mut shelf = shelf_of(alloc, with_program(program), &[])?;
     let words = words_of(alloc, "search p.json p.s")?;
-    search(alloc, words.as_slice(), &mut shelf);
+    search(rt, alloc, words.as_slice(), &mut shelf, &FreeGate);
     let words = words_of(alloc, "check p.json p.s")?;
     command(alloc, words.as_slice(), &mut shelf);
     Ok(Outcome {

@@ -1,13 +1,13 @@
 //! `check`: listings that are proved, and the first failure of those that are not.
-use crate::calls::{Files, Left, leaves, refuses};
+use crate::calls::{Files, Host, Left, leaves, refuses};
 use crate::programs::{ADD1, CHAIN2, CHAIN2_TEXT, COPY1, COPY1_TEXT, COPY2, function};
-use std::alloc::{AllocError, Global};
+use std::alloc::AllocError;
 use std::test::Fail;
 
 const LINE: &str = "check p.json p.s";
 
 // Whether a check of the listing says that it is proved for the program.
-fn is_proved(alloc: Global, program: &str, asm: &str) -> Result<bool, AllocError> {
+fn is_proved(rt: &impl Host, program: &str, asm: &str) -> Result<bool, AllocError> {
     let files = Files {
         program: program.as_bytes(),
         asm: asm.as_bytes(),
@@ -17,24 +17,24 @@ fn is_proved(alloc: Global, program: &str, asm: &str) -> Result<bool, AllocError
         asm: files.asm,
         said: "proved\n",
     };
-    leaves(alloc, files, LINE, &[3], left)
+    leaves(rt, files, LINE, &[3], left)
 }
 
 // The second listing has another name than its program.
 #[test]
 fn says_that_a_listing_is_proved(rt: HostRuntime) -> Result<(), Fail> {
-    assert!(rt; is_proved(rt.alloc(), COPY1, COPY1_TEXT)?);
+    assert!(rt; is_proved(&rt, COPY1, COPY1_TEXT)?);
     let body = "mov rax, rdx\nadd rsi, -1\nadc rax, rcx\nmov [rdi], rax\n\
                 mov rcx, 0\nadc rcx, 0\nmov [rdi + 8], rcx\nret\n";
     let asm = function(rt.alloc(), body)?;
-    assert!(rt; is_proved(rt.alloc(), ADD1, asm.as_str())?);
+    assert!(rt; is_proved(&rt, ADD1, asm.as_str())?);
     Ok(())
 }
 
 // Two chains, each in a flag of its own; with an addition between them that ends the one in the overflow flag.
 #[test]
 fn follows_two_carry_chains(rt: HostRuntime) -> Result<(), Fail> {
-    assert!(rt; is_proved(rt.alloc(), CHAIN2, CHAIN2_TEXT)?);
+    assert!(rt; is_proved(&rt, CHAIN2, CHAIN2_TEXT)?);
     let broken = CHAIN2_TEXT.replace(
         rt.alloc(),
         "    adcx rax, qword ptr [rdx + 8]\n",
@@ -45,19 +45,19 @@ fn follows_two_carry_chains(rt: HostRuntime) -> Result<(), Fail> {
         asm: broken.as_bytes(),
     };
     let row = "check p.json p.s => 10 not proved: stuck at 12";
-    assert!(rt; refuses(rt.alloc(), files, row, 2)?);
+    assert!(rt; refuses(&rt, files, row, 2)?);
     Ok(())
 }
 
 // Whether a check of a listing with these lines is refused so, behind both loads.
-fn ends(alloc: Global, program: &str, body: &str, end: &str) -> Result<bool, AllocError> {
-    let asm = function(alloc, body)?;
+fn ends(rt: &impl Host, program: &str, body: &str, end: &str) -> Result<bool, AllocError> {
+    let asm = function(rt.alloc(), body)?;
     let files = Files {
         program: program.as_bytes(),
         asm: asm.as_bytes(),
     };
-    let row = format!(in alloc; "{LINE} => {end}")?;
-    refuses(alloc, files, row.as_str(), 2)
+    let row = format!(in rt.alloc(); "{LINE} => {end}")?;
+    refuses(rt, files, row.as_str(), 2)
 }
 
 // Each row has a program, the lines of a listing, and the end: other words in the outputs, and none; a register and
@@ -102,7 +102,7 @@ fn says_the_first_failure(rt: HostRuntime) -> Result<(), Fail> {
             "10 not proved: stuck at 2",
         ),
     ] {
-        assert!(rt; ends(rt.alloc(), program, body, end)?, "{body}");
+        assert!(rt; ends(&rt, program, body, end)?, "{body}");
     }
     Ok(())
 }
@@ -125,7 +125,7 @@ fn refuses_faulty_files(rt: HostRuntime) -> Result<(), Fail> {
             program: program.as_bytes(),
             asm: asm.as_bytes(),
         };
-        assert!(rt; refuses(rt.alloc(), files, row, calls)?, "{row}");
+        assert!(rt; refuses(&rt, files, row, calls)?, "{row}");
     }
     Ok(())
 }

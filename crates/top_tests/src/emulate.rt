@@ -1,19 +1,19 @@
 //! `emulate`: the words that a listing leaves, and what it refuses.
-use crate::calls::{Files, Left, leaves, refuses};
+use crate::calls::{Files, Host, Left, leaves, refuses};
 use crate::programs::{ADD1, CHAIN2, CHAIN2_TEXT, COPY1, COPY1_TEXT, function};
-use std::alloc::{AllocError, Global};
+use std::alloc::AllocError;
 use std::test::Fail;
 
 const LINE: &str = "emulate p.json p.s --in 7";
 
 // Whether an emulation says this text.
-fn says(alloc: Global, files: Files<'_>, line: &str, said: &str) -> Result<bool, AllocError> {
+fn says(rt: &impl Host, files: Files<'_>, line: &str, said: &str) -> Result<bool, AllocError> {
     let left = Left {
         end: "0 ",
         asm: files.asm,
         said,
     };
-    leaves(alloc, files, line, &[3], left)
+    leaves(rt, files, line, &[3], left)
 }
 
 #[test]
@@ -25,12 +25,12 @@ fn says_the_words_that_the_listing_leaves(rt: HostRuntime) -> Result<(), Fail> {
         program: CHAIN2.as_bytes(),
         asm: CHAIN2_TEXT.as_bytes(),
     };
-    assert!(rt; says(rt.alloc(), files, line, said)?);
+    assert!(rt; says(&rt, files, line, said)?);
     let files = Files {
         program: COPY1.as_bytes(),
         asm: COPY1_TEXT.as_bytes(),
     };
-    assert!(rt; says(rt.alloc(), files, LINE, "out1[0] 0x0000000000000007\n")?);
+    assert!(rt; says(&rt, files, LINE, "out1[0] 0x0000000000000007\n")?);
     Ok(())
 }
 
@@ -46,7 +46,7 @@ fn carries_through_the_overflow_flag(rt: HostRuntime) -> Result<(), Fail> {
     };
     let line = "emulate p.json p.s --in 1,0xffffffffffffffff,0";
     let said = "out1[0] 0x0000000000000000\nout1[1] 0x0000000000000001\n";
-    assert!(rt; says(rt.alloc(), files, line, said)?);
+    assert!(rt; says(&rt, files, line, said)?);
     Ok(())
 }
 
@@ -80,20 +80,20 @@ fn starts_from_the_stated_state(rt: HostRuntime) -> Result<(), Fail> {
             program: COPY1.as_bytes(),
             asm: asm.as_bytes(),
         };
-        assert!(rt; says(rt.alloc(), files, LINE, said)?, "{body}");
+        assert!(rt; says(&rt, files, LINE, said)?, "{body}");
     }
     Ok(())
 }
 
 // Whether an emulation of a listing with these lines is refused so.
-fn refuses_body(alloc: Global, body: &str, end: &str) -> Result<bool, AllocError> {
-    let asm = function(alloc, body)?;
+fn refuses_body(rt: &impl Host, body: &str, end: &str) -> Result<bool, AllocError> {
+    let asm = function(rt.alloc(), body)?;
     let files = Files {
         program: COPY1.as_bytes(),
         asm: asm.as_bytes(),
     };
-    let row = format!(in alloc; "{LINE} => {end}")?;
-    refuses(alloc, files, row.as_str(), 2)
+    let row = format!(in rt.alloc(); "{LINE} => {end}")?;
+    refuses(rt, files, row.as_str(), 2)
 }
 
 // Each row has the lines of a listing for the copy, and the end: a read behind an array and under the frame, a
@@ -111,7 +111,7 @@ fn refuses_stuck_listings_and_other_texts(rt: HostRuntime) -> Result<(), Fail> {
         ("clc\nmov rax\nret\n", "8 assembly line 6"),
         ("clc\n", "9 listing without its return"),
     ] {
-        assert!(rt; refuses_body(rt.alloc(), body, end)?, "{body}");
+        assert!(rt; refuses_body(&rt, body, end)?, "{body}");
     }
     Ok(())
 }
@@ -144,7 +144,7 @@ fn refuses_in_the_order_of_the_words(rt: HostRuntime) -> Result<(), Fail> {
             program: program.as_bytes(),
             asm: asm.as_bytes(),
         };
-        assert!(rt; refuses(rt.alloc(), files, row, calls)?, "{row}");
+        assert!(rt; refuses(&rt, files, row, calls)?, "{row}");
     }
     Ok(())
 }

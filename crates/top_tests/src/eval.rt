@@ -1,18 +1,18 @@
 //! `eval`: the outputs of programs, and what it refuses.
-use crate::calls::{Left, leaves, refuses, with_program};
+use crate::calls::{Host, Left, leaves, refuses, with_program};
 use crate::programs::{ADD1, AND2, CHAIN2, COPY2, MULX1, SUB1};
-use std::alloc::{AllocError, Global};
+use std::alloc::AllocError;
 use std::test::Fail;
 
 // Whether an evaluation on this list says this text.
-fn says(alloc: Global, program: &str, list: &str, said: &str) -> Result<bool, AllocError> {
-    let line = format!(in alloc; "eval p.json --in {list}")?;
+fn says(rt: &impl Host, program: &str, list: &str, said: &str) -> Result<bool, AllocError> {
+    let line = format!(in rt.alloc(); "eval p.json --in {list}")?;
     let left = Left {
         end: "0 ",
         asm: b"old",
         said,
     };
-    leaves(alloc, with_program(program), line.as_str(), &[2], left)
+    leaves(rt, with_program(program), line.as_str(), &[2], left)
 }
 
 #[test]
@@ -41,7 +41,7 @@ fn says_the_outputs(rt: HostRuntime) -> Result<(), Fail> {
              out1[2] 0x0000000000000000\nout1[3] 0x0000000000000001\n",
         ),
     ] {
-        assert!(rt; says(rt.alloc(), program, list, said)?, "{list}");
+        assert!(rt; says(&rt, program, list, said)?, "{list}");
     }
     Ok(())
 }
@@ -54,12 +54,12 @@ fn refuses_other_inputs_and_programs(rt: HostRuntime) -> Result<(), Fail> {
         "eval p.json => 12 0 inputs, 3 wanted",
         "eval missing.json => 3 cannot read missing.json",
     ] {
-        assert!(rt; refuses(rt.alloc(), with_program(ADD1), row, 1)?, "{row}");
+        assert!(rt; refuses(&rt, with_program(ADD1), row, 1)?, "{row}");
     }
     let row = "eval p.json => 5 not JSON";
-    assert!(rt; refuses(rt.alloc(), with_program(""), row, 1)?);
+    assert!(rt; refuses(&rt, with_program(""), row, 1)?);
     let twice = COPY2.replace(rt.alloc(), "out1[1]", "out1[0]")?;
     let row = "eval p.json => 6 program fault P14 at body 1 2";
-    assert!(rt; refuses(rt.alloc(), with_program(twice.as_str()), row, 1)?);
+    assert!(rt; refuses(&rt, with_program(twice.as_str()), row, 1)?);
     Ok(())
 }

@@ -11,6 +11,8 @@ mod emulate;
 #[cfg(test)]
 mod eval;
 #[cfg(test)]
+mod lanes;
+#[cfg(test)]
 mod lines;
 #[cfg(test)]
 mod programs;

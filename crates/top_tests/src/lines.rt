@@ -53,8 +53,8 @@ show --help
 fn refuses_what_is_no_command_with_no_call(rt: HostRuntime) -> Result<(), Fail> {
     for line in NONE.lines() {
         let left = refused(copy(), "2 usage");
-        assert!(rt; leaves(rt.alloc(), copy(), line, &[0], left)?, "{line}");
-        assert!(rt; is_idle(rt.alloc(), copy(), line)?, "{line}");
+        assert!(rt; leaves(&rt, copy(), line, &[0], left)?, "{line}");
+        assert!(rt; is_idle(&rt, copy(), line)?, "{line}");
     }
     for line in [
         "search p.json p.s",
@@ -63,7 +63,7 @@ fn refuses_what_is_no_command_with_no_call(rt: HostRuntime) -> Result<(), Fail> 
         "check p.json p.s",
         "show p.s",
     ] {
-        assert!(rt; is_idle(rt.alloc(), copy(), line)?, "{line}");
+        assert!(rt; is_idle(&rt, copy(), line)?, "{line}");
     }
     Ok(())
 }
@@ -88,7 +88,7 @@ fn takes_options_anywhere_and_names_behind_two_hyphens(rt: HostRuntime) -> Resul
             asm: COPY1_TEXT.as_bytes(),
             said,
         };
-        assert!(rt; leaves(rt.alloc(), copy(), line, &[calls], left)?, "{line}");
+        assert!(rt; leaves(&rt, copy(), line, &[calls], left)?, "{line}");
     }
     for (row, calls) in [
         ("eval - => 3 cannot read -", 1),
@@ -97,7 +97,7 @@ fn takes_options_anywhere_and_names_behind_two_hyphens(rt: HostRuntime) -> Resul
         ("check p.json - => 3 cannot read -", 2),
         ("show -- --in => 3 cannot read --in", 1),
     ] {
-        assert!(rt; refuses(rt.alloc(), copy(), row, calls)?, "{row}");
+        assert!(rt; refuses(&rt, copy(), row, calls)?, "{row}");
     }
     Ok(())
 }
@@ -121,7 +121,7 @@ fn ends_at_the_call_that_fails(rt: HostRuntime) -> Result<(), Fail> {
     ] {
         let left = refused(copy(), end);
         assert!(rt;
-            leaves(rt.alloc(), copy(), line, &[call, call + 1], left)?,
+            leaves(&rt, copy(), line, &[call, call + 1], left)?,
             "{line}, {call}"
         );
     }
@@ -131,7 +131,7 @@ fn ends_at_the_call_that_fails(rt: HostRuntime) -> Result<(), Fail> {
         said: "",
     };
     let line = "search p.json p.s";
-    assert!(rt; leaves(rt.alloc(), with_program(COPY1), line, &[2, 3], left)?);
+    assert!(rt; leaves(&rt, with_program(COPY1), line, &[2, 3], left)?);
     let end = end_of(rt.alloc(), &Status::OutOfMemory)?;
     assert_eq!(rt; end.as_str(), "17 out of memory");
     Ok(())

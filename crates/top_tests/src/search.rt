@@ -1,5 +1,5 @@
 //! `search`: what it publishes, and what it refuses.
-use crate::calls::{Left, leaves, published, refused, with_program};
+use crate::calls::{Host, Left, leaves, published, refused, with_program};
 use crate::programs::{ADD1, AND2, CHAIN2, COPY1, COPY1_TEXT, MUL4, MULX1, SUB1};
 use std::alloc::{AllocError, Global};
 use std::test::Fail;
@@ -31,13 +31,13 @@ f_1:
 ";
 
 // Whether a search of the program publishes this text.
-fn publishes(alloc: Global, program: &str, text: &str) -> Result<bool, AllocError> {
+fn publishes(rt: &impl Host, program: &str, text: &str) -> Result<bool, AllocError> {
     let left = Left {
         end: "0 ",
         asm: text.as_bytes(),
         said: "opening 28\n",
     };
-    leaves(alloc, with_program(program), LINE, &[3], left)
+    leaves(rt, with_program(program), LINE, &[3], left)
 }
 
 // Each row has a piece of the program, and what stands in its place.
@@ -61,14 +61,14 @@ fn publishes_the_listing_byte_for_byte(rt: HostRuntime) -> Result<(), Fail> {
         (LAST, LAST_TEXT),
         (full.as_str(), COPY1_TEXT),
     ] {
-        assert!(rt; publishes(rt.alloc(), program, text)?, "{text}");
+        assert!(rt; publishes(&rt, program, text)?, "{text}");
     }
     let over = format!(in rt.alloc(); "{full} ")?;
     let left = refused(
         with_program(over.as_str()),
         "4 p.json has more than 1048576 bytes",
     );
-    assert!(rt; leaves(rt.alloc(), with_program(over.as_str()), LINE, &[1], left)?);
+    assert!(rt; leaves(&rt, with_program(over.as_str()), LINE, &[1], left)?);
     Ok(())
 }
 
@@ -85,10 +85,7 @@ fn reads_the_same_program_in_another_text(rt: HostRuntime) -> Result<(), Fail> {
     for row in SAME.trim().lines() {
         let program = changed(rt.alloc(), COPY1, row)?;
         assert_ne!(rt; program.as_str(), COPY1, "{row}");
-        assert!(rt;
-            publishes(rt.alloc(), program.as_str(), COPY1_TEXT)?,
-            "{row}"
-        );
+        assert!(rt; publishes(&rt, program.as_str(), COPY1_TEXT)?, "{row}");
     }
     Ok(())
 }
@@ -117,7 +114,7 @@ fn refuses_other_programs(rt: HostRuntime) -> Result<(), Fail> {
         let program = changed(rt.alloc(), COPY1, change)?;
         let files = with_program(program.as_str());
         assert!(rt;
-            leaves(rt.alloc(), files, LINE, &[1], refused(files, end))?,
+            leaves(&rt, files, LINE, &[1], refused(files, end))?,
             "{row}"
         );
     }
@@ -147,13 +144,13 @@ const OPENINGS: &[(&str, u64, usize)] = &[
 #[test]
 fn publishes_an_opening_that_check_proves(rt: HostRuntime) -> Result<(), Fail> {
     for (program, cost, lines) in OPENINGS {
-        let left = published(rt.alloc(), program)?;
+        let left = published(&rt, program)?;
         let said = format!(in rt.alloc(); "opening {cost}\nproved\n")?;
         assert!(rt; left.said.as_slice() == said.as_bytes(), "{program}");
         assert_eq!(rt; left.instructions, *lines, "{program}");
     }
     let apart = changed(rt.alloc(), SWAP2, APART)?;
-    let left = published(rt.alloc(), apart.as_str())?;
+    let left = published(&rt, apart.as_str())?;
     assert!(rt; left.said.as_slice() == b"opening 47\nproved\n".as_slice());
     Ok(())
 }
