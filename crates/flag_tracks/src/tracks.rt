@@ -54,6 +54,13 @@ impl Tracks {
         })
     }
 
+    /// How many values there are.
+    pub fn count(&self) -> usize
+        ensures { result ≡ length self.now }
+    {
+        self.homes.len()
+    }
+
     /// Where the value with this number is kept.
     pub fn home(&self, value: u16) -> Home
         requires { value < length self.now }

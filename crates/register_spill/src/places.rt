@@ -65,6 +65,13 @@ impl Places {
         })
     }
 
+    /// How many values there are.
+    pub fn count(&self) -> usize
+        ensures { result ≡ length self.now.spots }
+    {
+        self.spots.len()
+    }
+
     /// Where the value with this number is. No register has two values, none has the stack pointer, and a value in the
     /// frame is in the slot with its own number.
     pub fn at(&self, value: u16) -> Spot
