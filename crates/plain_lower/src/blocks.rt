@@ -48,7 +48,7 @@ fn push_loads(
 }
 
 /// Stores the results of an operation, of which the first one is the value with this number.
-fn push_stores(
+pub fn push_stores(
     lines: &mut Lines,
     program: &Program,
     value: u32,
@@ -67,7 +67,7 @@ fn push_stores(
 
 /// The value number of the first result of an operation.
 #[tactic(auto, using(crate::proofs::FirstValues::firsts_count, crate::proofs::FirstValues::first_at, crate::proofs::FirstValues::first_few))]
-fn first_of(program: &Program, firsts: &[u32], op: u16) -> u32
+pub fn first_of(program: &Program, firsts: &[u32], op: u16) -> u32
     requires firsts { firsts.now ≡ spec.firsts_of program.now }
     requires op { op < length program.now.ops }
     ensures first { result ≡ first_value program.now op }

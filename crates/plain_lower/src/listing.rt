@@ -72,7 +72,7 @@ fn push_saves(lines: &mut Lines, params: &[Param]) -> Result<(), AllocError>
 }
 
 /// Takes the frame, and saves the parameters.
-fn push_entry(lines: &mut Lines, program: &Program) -> Result<(), AllocError>
+pub fn push_entry(lines: &mut Lines, program: &Program) -> Result<(), AllocError>
     ensures entry { OnOk result (lines.new ≡ lines.old ++ spec.entry program.now) }
     ensures accepted { IsAccepted program.now }
 {
@@ -113,7 +113,7 @@ fn push_late(lines: &mut Lines, program: &Program, targets: &[Target]) -> Result
 }
 
 /// Stores the output words that were kept, where outputs may share memory with inputs.
-fn push_late_stores(lines: &mut Lines, program: &Program) -> Result<(), AllocError>
+pub fn push_late_stores(lines: &mut Lines, program: &Program) -> Result<(), AllocError>
     requires { IsAccepted program.now }
     ensures { OnOk result (lines.new ≡ lines.old ++ spec.late_stores program.now) }
 {
@@ -124,7 +124,7 @@ fn push_late_stores(lines: &mut Lines, program: &Program) -> Result<(), AllocErr
 }
 
 /// Gives the frame back, and returns.
-fn push_exit(lines: &mut Lines, program: &Program) -> Result<(), AllocError>
+pub fn push_exit(lines: &mut Lines, program: &Program) -> Result<(), AllocError>
     ensures { OnOk result (lines.new ≡ lines.old ++ spec.exit program.now) }
 {
     lines.push(unowned(Instr::Bin {
