@@ -15,12 +15,16 @@ abbrev pub plan_for : Source → Sight → List Slot → List Slot
 plan_for program sight slots =
     applied program (drawn program slots (words_of sight.seed sight.turn) sight.draw) slots
 
--- the offer is the sight's lane's, at its turn, of the program, and its plan is that one
-pub record IsOfferFor (program : Source) (sight : Sight) (slots : List Slot) (offer : Offer) : Type 0 where
+-- the offer is the sight's lane's, at its turn, of the program, and its plan has these slots
+pub record IsOfferWith (program : Source) (sight : Sight) (slots : List Slot) (offer : Offer) : Type 0 where
   pub lane : offer.lane ≡ sight.lane
   pub turn : offer.turn ≡ sight.turn
   pub program_is : offer.checked.program ≡ program
-  pub plan : offer.checked.plan.slots ≡ plan_for program sight slots
+  pub plan : offer.checked.plan.slots ≡ slots
+
+-- the same, and its plan is that after the mutation
+abbrev pub IsOfferFor : Source → Sight → List Slot → Offer → Type 0
+IsOfferFor program sight slots offer = IsOfferWith program sight (plan_for program sight slots) offer
 
 -- an offer that is marked as plain has the plain listing of its plan
 abbrev pub IsPlainWhereMarked : Offer → Type 0

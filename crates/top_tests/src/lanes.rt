@@ -4,6 +4,7 @@ use crate::programs::{COPY1, COPY1_TEXT, MUL4};
 use io_ports::{Fault, MemoryShelf, Shelf};
 use search_top::{FreeGate, Gate, command, search};
 use std::alloc::{AllocError, Global};
+use std::str::from_utf8;
 use std::sync::atomic::{AtomicU64, Ordering};
 use std::test::Fail;
 
@@ -107,7 +108,26 @@ fn ends_at_the_call_that_fails(rt: HostRuntime) -> Result<(), Fail> {
     Ok(())
 }
 
-// A search of four words times four by two workers over three lanes, which `check` then proves.
+// What is said at the end: the greatest words, squared, as (2^256 - 1)^2 is 2^512 - 2^257 + 1.
+const ENDS_WITH: &str = "
+plain 0
+proved
+out1[0] 0x0000000000000001
+out1[1] 0x0000000000000000
+out1[2] 0x0000000000000000
+out1[3] 0x0000000000000000
+out1[4] 0xfffffffffffffffe
+out1[5] 0xffffffffffffffff
+out1[6] 0xffffffffffffffff
+out1[7] 0xffffffffffffffff
+";
+
+const GREATEST: &str = "emulate p.json p.s --in 18446744073709551615,18446744073709551615,\
+18446744073709551615,18446744073709551615,18446744073709551615,18446744073709551615,\
+18446744073709551615,18446744073709551615";
+
+// A search of four words times four by two workers over three lanes: no offer is a plain listing, and the cheapest one
+// is proved, and squares the greatest words.
 #[test]
 fn makes_every_turn_of_every_lane(rt: HostRuntime) -> Result<(), Fail> {
     let alloc = rt.alloc();
@@ -115,11 +135,44 @@ fn makes_every_turn_of_every_lane(rt: HostRuntime) -> Result<(), Fail> {
     let mut shelf = shelf_of(alloc, MUL4, &[])?;
     let words = words_of(alloc, line)?;
     search(&rt, alloc, words.as_slice(), &mut shelf, &FreeGate);
-    let words = words_of(alloc, "check p.json p.s")?;
-    command(alloc, words.as_slice(), &mut shelf);
+    for line in ["check p.json p.s", GREATEST] {
+        let words = words_of(alloc, line)?;
+        command(alloc, words.as_slice(), &mut shelf);
+    }
     let said = shelf.said();
     assert!(rt; said.starts_with(b"lanes 3 turns 30 entries 90\nopening 1302\nbest "));
-    assert!(rt; said.ends_with(b"\nplain 90\nproved\n"));
+    assert!(rt; said.ends_with(ENDS_WITH.as_bytes()));
+    Ok(())
+}
+
+// How the replay of a search of one offer ends, where this piece of the journal is another one, and what is said.
+fn replay_of(rt: &impl Host, piece: &str, by: &str) -> Result<(String, bool), Fail> {
+    let alloc = rt.alloc();
+    let mut shelf = shelf_of(alloc, MUL4, &[])?;
+    let words = words_of(
+        alloc,
+        "search p.json p.s p.j --seeds 0 --workers 1 --turns 1",
+    )?;
+    search(rt, alloc, words.as_slice(), &mut shelf, &FreeGate);
+    let journal = file(alloc, &shelf, "p.j")?;
+    let text = from_utf8(journal.as_slice())?.replace(alloc, piece, by)?;
+    shelf.put("p.j", text.as_str().as_bytes())?;
+    let words = words_of(alloc, "replay p.json p.j p.s")?;
+    let status = command(alloc, words.as_slice(), &mut shelf);
+    let replayed = shelf.said().ends_with(b"\nreplayed 1 best 1 cost 263\n");
+    Ok((end_of(alloc, &status)?, replayed))
+}
+
+// The cost of the one offer is that of the fast listing of the opening plan, since the mutation that is drawn, of the
+// chain of a copy, changes nothing.
+#[test]
+fn replays_only_the_cost_that_the_listing_has(rt: HostRuntime) -> Result<(), Fail> {
+    let (end, replayed) = replay_of(&rt, " 263 fast", " 263 fast")?;
+    assert_eq!(rt; end.as_str(), "0 ");
+    assert!(rt; replayed);
+    let (end, replayed) = replay_of(&rt, " 263 fast", " 262 fast")?;
+    assert_eq!(rt; end.as_str(), "16 replay: cost 262 table 263");
+    assert!(rt; !replayed);
     Ok(())
 }
 
